@@ -1,0 +1,76 @@
+-- Laws of judgements: what is accepted passed every test, and a refusal is handed on as it is.
+-- Assumes nothing.
+use Prim.Native.Nat.{ℕ}
+use mathlib.Core.Path.{_≡_, refl, ap}
+use mathlib.Core.Bool.{Bool, true, false}
+use mathlib.Core.List.{List, [], _∷_, _++_}
+use native.Mathlib.Omega.{arith}
+use lib.Dec.{eqb}
+use lib.ListN.{getD}
+use Rattle.fields.specs.Choice.{if_then_else_}
+use Rattle.fields.specs.Answer.{Answer, accepted, short, refused, told, andThen, Test, firstOf}
+
+-- every test is false
+abbrev pub Passed : List Test → Type 0
+Passed [] = Unit {0}
+Passed (t ∷ ts) = (t .holds ≡ false) × Passed ts
+
+one : {A : Type 0} (c : Bool) (ns : List ℕ) (x : A) (o : Answer A) → accepted x ≡ (if c then refused ns else o) → (c ≡ false) × (accepted x ≡ o)
+one true ns x o e = let z : _≡_ {A = ℕ} 0 1 = cc in absurd (omega arith)
+one false ns x o e = (refl, e)
+
+pub same-accepted : {A : Type 0} (x y : A) → _≡_ {A = Answer A} (accepted x) (accepted y) → x ≡ y
+same-accepted x y e = cc
+
+-- what is accepted passed every test
+pub passed : {A : Type 0} (ts : List Test) (x y : A) → accepted x ≡ firstOf ts y → Passed ts × (x ≡ y)
+passed [] x y e = (tt, same-accepted x y e)
+passed (t ∷ ts) x y e =
+    let p = one (t .holds) (t .says) x (firstOf ts y) e in
+    let q = passed ts x y (p .1) in
+    ((p .0, q .0), q .1)
+
+-- where the tests of a part are passed, the rest decides
+pub passed-on : {A : Type 0} (ts us : List Test) (a : A) → Passed ts → firstOf (ts ++ us) a ≡ firstOf us a
+passed-on [] us a p = refl
+passed-on (t ∷ ts) us a p = rw (p .0) (passed-on ts us a (p .1))
+
+-- no refusal is an acceptance
+module _ {A : Type 0} (ns : List ℕ) where
+  pub told-no : (a : A) → told ns ≡ accepted a → ⊥
+  unfolding told
+  told-no a e = go (eqb (getD ns 0 0) 1) e
+    where
+      go : (c : Bool) → _≡_ {A = Answer A} (if c then short (getD ns 1 0) (getD ns 2 0) else refused ns) (accepted a) → ⊥
+      go true d = let z : _≡_ {A = ℕ} 0 1 = cc in omega arith
+      go false d = let z : _≡_ {A = ℕ} 0 1 = cc in omega arith
+
+module _ {A B : Type 0} (ns : List ℕ) where
+  -- a refusal is the same of whatever might have been accepted
+  told-as : (ms : List ℕ) → _≡_ {A = Answer A} (told ns) (refused ms) → _≡_ {A = Answer B} (told ns) (refused ms)
+  unfolding told
+  told-as ms e = go (eqb (getD ns 0 0) 1) e
+    where
+      go : (c : Bool) → _≡_ {A = Answer A} (if c then short (getD ns 1 0) (getD ns 2 0) else refused ns) (refused ms)
+          → _≡_ {A = Answer B} (if c then short (getD ns 1 0) (getD ns 2 0) else refused ns) (refused ms)
+      go true d = let z : _≡_ {A = ℕ} 0 1 = cc in absurd (omega arith)
+      go false d = let h : ns ≡ ms = cc in ap refused h
+
+  -- where the tests of a part refuse, those of the whole do so alike
+  pub refused-on : (ts us : List Test) (a : A) (b : B) → told ns ≡ firstOf ts a → told ns ≡ firstOf (ts ++ us) b
+  refused-on [] us a b e = absurd (told-no ns a e)
+  refused-on (t ∷ ts) us a b e = go (t .holds) e (λ d. refused-on ts us a b d)
+    where
+      go : (c : Bool) → told ns ≡ (if c then refused (t .says) else firstOf ts a) → (told ns ≡ firstOf ts a → told ns ≡ firstOf (ts ++ us) b)
+          → told ns ≡ (if c then refused (t .says) else firstOf (ts ++ us) b)
+      go true d rest = told-as (t .says) d
+      go false d rest = rest d
+
+  -- what goes on from a refusal is that refusal
+  pub told-on : (f : A → Answer B) → andThen (told ns) f ≡ told ns
+  unfolding told
+  told-on f = go (eqb (getD ns 0 0) 1)
+    where
+      go : (c : Bool) → andThen (if c then short (getD ns 1 0) (getD ns 2 0) else refused ns) f ≡ (if c then short (getD ns 1 0) (getD ns 2 0) else refused ns)
+      go true = refl
+      go false = refl

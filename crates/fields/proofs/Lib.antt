@@ -1,0 +1,7 @@
+-- Laws of the definitions, which upper crates cite too. The proof of a function stands in the folder of its name.
+pub mod Checksum
+pub mod BigEndian
+pub mod Width
+pub mod OneToOne
+pub mod Judging
+pub mod Staged

@@ -1,0 +1,32 @@
+-- Document 01's table, 'What is answered': the number of each refusal, and then the numbers that it returns.
+use Prim.Native.Nat.{ℕ, _-_}
+use mathlib.Core.List.{List, [], _∷_}
+use lib.ListN.{length, getD, take}
+use Rattle.fields.specs.declared.refusal.Refusal.{Refusal}
+use Rattle.fields.specs.declared.refusal.Refusal.the-variants.{FromSliceTooSmall, CfdpVersionMissmatch, InvalidEntityLen, InvalidTransactionSeqNumLen, Checksum, DataFieldTooSmall, InvalidDirectiveType, WrongDirectiveType, InvalidStartOrEndOfScope, TooManySegmentRequests, ToSliceTooSmall, OddCount, SourceDestIdLenMissmatch, ValueTooLargeForWidth, TooSmallForPduHeader}
+use Rattle.fields.specs.declared.refusal.RefusalNumbers.{RefusalNumbers}
+
+abbrev pub paper : Refusal → List ℕ
+paper (FromSliceTooSmall length needed) = 1 ∷ length ∷ needed ∷ []
+paper (CfdpVersionMissmatch version) = 2 ∷ version ∷ []
+paper (InvalidEntityLen width) = 3 ∷ width ∷ []
+paper (InvalidTransactionSeqNumLen width) = 4 ∷ width ∷ []
+paper (Checksum last) = 5 ∷ last ∷ []
+paper (DataFieldTooSmall end needed) = 6 ∷ end ∷ needed ∷ []
+paper (InvalidDirectiveType code) = 7 ∷ code ∷ []
+paper (WrongDirectiveType code) = 8 ∷ code ∷ []
+paper (InvalidStartOrEndOfScope first last) = 9 ∷ first ∷ last ∷ []
+paper (TooManySegmentRequests pairs most) = 10 ∷ pairs ∷ most ∷ []
+paper (ToSliceTooSmall length needed) = 11 ∷ length ∷ needed ∷ []
+paper (OddCount count) = 12 ∷ count ∷ []
+paper (SourceDestIdLenMissmatch source destination) = 13 ∷ source ∷ destination ∷ []
+paper (ValueTooLargeForWidth value width) = 14 ∷ value ∷ width ∷ []
+paper TooSmallForPduHeader = 15 ∷ []
+
+-- the same as a record of fixed size: the number, how many values there are, and these; a value that there is not is 0
+abbrev pub numbersOf : Refusal → RefusalNumbers
+numbersOf r = record { number = getD (paper r) 0 0; count = length (paper r) - 1; first = getD (paper r) 1 0; second = getD (paper r) 2 0 }
+
+-- the record as a list again
+abbrev pub listed : RefusalNumbers → List ℕ
+listed n = n .number ∷ take (n .count) (n .first ∷ n .second ∷ [])

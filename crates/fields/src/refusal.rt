@@ -1,0 +1,100 @@
+// The refusals of document 01, a variant for each number of its table, and their numbers for printing.
+ghost use mathlib.Core.Path.{_≡_};
+ghost use Rattle.fields.specs.Refusal.{numbersOf};
+
+// Names are the Rust's where the Rust has the refusal; 6, 10 and 12 are the port's own.
+pub enum Refusal {
+    // 1: buffer short.
+    FromSliceTooSmall { found: usize, expected: usize },
+    // 2: version is not 1.
+    CfdpVersionMissmatch(u8),
+    // 3: entity width not 1, 2, 4, 8.
+    InvalidEntityLen(u8),
+    // 4: sequence width not 1, 2, 4, 8.
+    InvalidTransactionSeqNumLen(u8),
+    // 5: checksum not zero; the PDU's last 16 bits.
+    Checksum(u16),
+    // 6: declared data short; where the data ends, and where it would have to.
+    DataFieldTooSmall { end: usize, expected: usize },
+    // 7: unknown directive.
+    InvalidDirectiveType(u8),
+    // 8: known directive, not NAK.
+    WrongDirectiveType(u8),
+    // 9: scope above 2^32 - 1 in a normal NAK.
+    InvalidStartOrEndOfScope { start: u64, end: u64 },
+    // 10: more pairs than fit.
+    TooManySegmentRequests { found: usize, most: usize },
+    // 11: output buffer short.
+    ToSliceTooSmall { found: usize, expected: usize },
+    // 12: odd count of lent numbers.
+    OddCount(usize),
+    // 13: source and destination widths differ.
+    SourceDestIdLenMissmatch { source: u8, destination: u8 },
+    // 14: value does not fit its width.
+    ValueTooLargeForWidth { value: u64, width: u8 },
+    // 15: packet size below h + 1 + F, plus 2 with CRC.
+    TooSmallForPduHeader,
+}
+
+// A refusal as document 01 prints it: its number, how many values it returns, and these; a value that it does not
+// return is 0.
+pub struct RefusalNumbers {
+    pub number: u8,
+    pub count: u8,
+    pub first: u64,
+    pub second: u64,
+}
+
+fn one(number: u8, first: u64) -> RefusalNumbers
+    ensures { λ r. ⌜ r ≡ record { number = number; count = 1; first = first; second = 0 } ⌝ }
+{
+    RefusalNumbers {
+        number,
+        count: 1,
+        first,
+        second: 0,
+    }
+}
+
+fn two(number: u8, first: u64, second: u64) -> RefusalNumbers
+    ensures { λ r. ⌜ r ≡ record { number = number; count = 2; first = first; second = second } ⌝ }
+{
+    RefusalNumbers {
+        number,
+        count: 2,
+        first,
+        second,
+    }
+}
+
+impl Refusal {
+    pub fn numbers(self) -> RefusalNumbers
+        ensures { λ r. ⌜ r ≡ numbersOf self ⌝ }
+    {
+        match self {
+            Refusal::FromSliceTooSmall { found, expected } => two(1, found as u64, expected as u64),
+            Refusal::CfdpVersionMissmatch(version) => one(2, version as u64),
+            Refusal::InvalidEntityLen(width) => one(3, width as u64),
+            Refusal::InvalidTransactionSeqNumLen(width) => one(4, width as u64),
+            Refusal::Checksum(last) => one(5, last as u64),
+            Refusal::DataFieldTooSmall { end, expected } => two(6, end as u64, expected as u64),
+            Refusal::InvalidDirectiveType(code) => one(7, code as u64),
+            Refusal::WrongDirectiveType(code) => one(8, code as u64),
+            Refusal::InvalidStartOrEndOfScope { start, end } => two(9, start, end),
+            Refusal::TooManySegmentRequests { found, most } => two(10, found as u64, most as u64),
+            Refusal::ToSliceTooSmall { found, expected } => two(11, found as u64, expected as u64),
+            Refusal::OddCount(count) => one(12, count as u64),
+            Refusal::SourceDestIdLenMissmatch {
+                source,
+                destination,
+            } => two(13, source as u64, destination as u64),
+            Refusal::ValueTooLargeForWidth { value, width } => two(14, value, width as u64),
+            Refusal::TooSmallForPduHeader => RefusalNumbers {
+                number: 15,
+                count: 0,
+                first: 0,
+                second: 0,
+            },
+        }
+    }
+}
