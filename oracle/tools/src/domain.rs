@@ -1,0 +1,136 @@
+//! Where port and Rust are compared: the section of document 01 with that name, and what its table
+//! calls the port's own. It is judged from the command alone, by neither side's answer.
+use crate::command::{Command, Nak};
+use crate::{Field, List, Record, Scope};
+
+const MAX_NORMAL_PAIRS: usize = 8190;
+const MAX_LARGE_PAIRS: usize = 4094;
+
+/// Whether the answers to a command of the base are compared; `None` for a later command, and for
+/// `wsized`, which asks the Rust alone.
+pub fn compared(command: &Command) -> Option<bool> {
+    use Command::*;
+    Some(match command {
+        Crc(_) | Header(_) => true,
+        Build(record) | Verify(record, _) | Max(record, _) => judge(record, || true),
+        WriteHeader(record, buf) => judge(record, || header_room(record, buf.len())),
+        Read(bytes) => reading(bytes),
+        Write(nak, _) => writing(nak),
+        Reserve(record, count, _) => judge(record, || pairs_fit(record.large, *count)),
+        Finish(record, count, scope, _) => judge(record, || {
+            pairs_fit(record.large, *count) && scope_fits(record.large, scope)
+        }),
+        Compare(bytes, nak) => reading(bytes) && writing(nak),
+        _ => return None,
+    })
+}
+
+/// "every buffer, except those that hold all P bytes, have a good checksum, and whose E is at least
+/// 9 and below h + 1 + F"
+pub fn reading(bytes: &[u8]) -> bool {
+    let Some(sizes) = Sizes::read(bytes) else {
+        return true;
+    };
+    let Some(pdu) = bytes.get(..sizes.pdu) else {
+        return true;
+    };
+    if sizes.crc && checksum(pdu) != 0 {
+        return true;
+    }
+    let end = if sizes.crc { sizes.pdu - 2 } else { sizes.pdu };
+    !(9 <= end && end < sizes.header + 1 + sizes.pair)
+}
+
+/// h, P and F of a buffer whose header is accepted.
+struct Sizes {
+    header: usize,
+    pdu: usize,
+    pair: usize,
+    crc: bool,
+}
+
+impl Sizes {
+    fn read(bytes: &[u8]) -> Option<Sizes> {
+        let &[first, high, low, widths, ..] = bytes else {
+            return None;
+        };
+        let entity = usize::from(widths >> 4 & 7) + 1;
+        let sequence = usize::from(widths & 7) + 1;
+        let header = 4 + 2 * entity + sequence;
+        if first >> 5 != 1
+            || !allowed(entity as u64)
+            || !allowed(sequence as u64)
+            || bytes.len() < header
+        {
+            return None;
+        }
+        Some(Sizes {
+            header,
+            pdu: header + usize::from(u16::from_be_bytes([high, low])),
+            pair: if first & 1 == 1 { 16 } else { 8 },
+            crc: first >> 1 & 1 == 1,
+        })
+    }
+}
+
+/// Generator x^16 + x^12 + x^5 + 1, start 0xFFFF, most significant bit first.
+pub fn checksum(bytes: &[u8]) -> u16 {
+    let bit = |r: u16| (r << 1) ^ ((r >> 15) * 0x1021);
+    let byte = |r: u16, b: &u8| (0..8).fold(r ^ u16::from(*b) << 8, |r, _| bit(r));
+    bytes.iter().fold(0xffff, byte)
+}
+
+/// Whether a record's refusal is the Rust's too (13, 3, 4); for a valid record, `valid`. Refusal 14
+/// is the port's own, and no record of the port's holds a width above 255.
+fn judge(record: &Record, valid: impl FnOnce() -> bool) -> bool {
+    let fields = [record.source, record.sequence, record.destination];
+    if fields.iter().any(|f| f.width > 255) {
+        return false;
+    }
+    if record.source.width != record.destination.width || !fields.iter().all(|f| allowed(f.width)) {
+        return true;
+    }
+    fields.iter().all(fits) && valid()
+}
+
+fn allowed(width: u64) -> bool {
+    matches!(width, 1 | 2 | 4 | 8)
+}
+
+/// Of an allowed width.
+fn fits(field: &Field) -> bool {
+    field.width == 8 || field.value >> (8 * field.width) == 0
+}
+
+/// "for a header alone, a buffer below 4 + e + s or of at least h"
+fn header_room(record: &Record, room: usize) -> bool {
+    let (entity, sequence) = (record.source.width, record.sequence.width);
+    let room = room as u64;
+    room < 4 + entity + sequence || room >= 4 + 2 * entity + sequence
+}
+
+/// "valid records with pairs that fit and scopes that fit the final file flag"; an odd count of
+/// numbers is the port's own refusal 12.
+fn writing(nak: &Nak) -> bool {
+    let (large, numbers) = match &nak.list {
+        List::None => (nak.record.large, 0),
+        List::Normal(numbers) => (0, numbers.len()),
+        List::Large(numbers) => (1, numbers.len()),
+    };
+    judge(&nak.record, || {
+        numbers % 2 == 0 && pairs_fit(large, numbers / 2) && scope_fits(large, &nak.scope)
+    })
+}
+
+fn pairs_fit(large: u8, pairs: usize) -> bool {
+    pairs
+        <= if large == 1 {
+            MAX_LARGE_PAIRS
+        } else {
+            MAX_NORMAL_PAIRS
+        }
+}
+
+fn scope_fits(large: u8, scope: &Scope) -> bool {
+    large == 1 || scope.start.max(scope.end) <= u64::from(u32::MAX)
+}

@@ -1,0 +1,152 @@
+//! What the makers of command lists share: numbers by chance, records, and PDUs as bytes.
+use crate::command::Nak;
+use crate::domain::checksum;
+use crate::{Field, List, Record, Scope};
+
+/// The same numbers for the same seed, on every machine.
+pub struct Random(pub u64);
+
+impl Random {
+    /// One step of splitmix64.
+    pub fn number(&mut self) -> u64 {
+        self.0 = self.0.wrapping_add(0x9e37_79b9_7f4a_7c15);
+        let z = (self.0 ^ (self.0 >> 30)).wrapping_mul(0xbf58_476d_1ce4_e5b9);
+        let z = (z ^ (z >> 27)).wrapping_mul(0x94d0_49bb_1331_11eb);
+        z ^ (z >> 31)
+    }
+
+    pub fn below(&mut self, bound: u64) -> u64 {
+        self.number() % bound
+    }
+
+    pub fn bit(&mut self) -> u8 {
+        self.below(2) as u8
+    }
+
+    pub fn one_of<T: Copy>(&mut self, choices: &[T]) -> T {
+        choices[self.below(choices.len() as u64) as usize]
+    }
+
+    pub fn bytes(&mut self, count: usize) -> Vec<u8> {
+        (0..count).map(|_| self.number() as u8).collect()
+    }
+
+    /// A number below 2^bits, often one of the least or the greatest.
+    pub fn edge(&mut self, bits: u32) -> u64 {
+        let greatest = u64::MAX >> (64 - bits);
+        match self.below(4) {
+            0 => self.below(3).min(greatest),
+            1 => greatest - self.below(2),
+            _ => self.number() & greatest,
+        }
+    }
+
+    /// A valid record, its data field length by chance.
+    pub fn record(&mut self) -> Record {
+        let entity = self.one_of(&WIDTHS);
+        let sequence = self.one_of(&WIDTHS);
+        Record {
+            pdu_type: self.bit(),
+            direction: self.bit(),
+            mode: self.bit(),
+            crc: self.bit(),
+            large: self.bit(),
+            segmentation: self.bit(),
+            metadata: self.bit(),
+            length: self.number() as u16,
+            source: self.field(entity),
+            sequence: self.field(sequence),
+            destination: self.field(entity),
+        }
+    }
+
+    pub fn field(&mut self, width: u64) -> Field {
+        let value = self.edge(8 * width as u32);
+        Field { width, value }
+    }
+
+    /// A NAK of that many pairs, of the kind that the record's flag names.
+    pub fn nak(&mut self, record: Record, pairs: usize) -> Nak {
+        let bits = if record.large == 1 { 64 } else { 32 };
+        let numbers = (0..2 * pairs).map(|_| self.edge(bits));
+        let list = match record.large {
+            1 => List::Large(numbers.collect()),
+            _ => List::Normal(numbers.map(|n| n as u32).collect()),
+        };
+        let (start, end) = (self.edge(bits), self.edge(bits));
+        let scope = Scope { start, end };
+        Nak {
+            record,
+            scope,
+            list,
+        }
+    }
+}
+
+pub const WIDTHS: [u64; 4] = [1, 2, 4, 8];
+
+/// h
+pub fn header_len(record: &Record) -> usize {
+    4 + (record.source.width + record.sequence.width + record.destination.width) as usize
+}
+
+/// F
+pub fn pair_size(record: &Record) -> usize {
+    if record.large == 1 { 16 } else { 8 }
+}
+
+/// The bytes of a valid record's header.
+fn header(record: &Record) -> Vec<u8> {
+    let r = record;
+    let mut bytes = vec![
+        1 << 5 | r.pdu_type << 4 | r.direction << 3 | r.mode << 2 | r.crc << 1 | r.large,
+        (r.length >> 8) as u8,
+        r.length as u8,
+        r.segmentation << 7
+            | (r.source.width as u8 - 1) << 4
+            | r.metadata << 3
+            | (r.sequence.width as u8 - 1),
+    ];
+    for field in [r.source, r.sequence, r.destination] {
+        bytes.extend_from_slice(&field.value.to_be_bytes()[8 - field.width as usize..]);
+    }
+    bytes
+}
+
+/// The PDU of a valid record whose data field, less any checksum, is `data`.
+pub fn pdu(mut record: Record, data: &[u8]) -> Vec<u8> {
+    record.length = (data.len() + 2 * usize::from(record.crc)) as u16;
+    let mut bytes = header(&record);
+    bytes.extend_from_slice(data);
+    if record.crc == 1 {
+        bytes.extend_from_slice(&checksum(&bytes).to_be_bytes());
+    }
+    bytes
+}
+
+/// What follows the header in a NAK whose list is of its record's kind, less any checksum.
+pub fn nak_data(nak: &Nak) -> Vec<u8> {
+    let scope = [nak.scope.start, nak.scope.end];
+    let pairs: Vec<u64> = match &nak.list {
+        List::None => Vec::new(),
+        List::Normal(numbers) => numbers.iter().map(|n| u64::from(*n)).collect(),
+        List::Large(numbers) => numbers.clone(),
+    };
+    let from = 8 - pair_size(&nak.record) / 2;
+    let numbers = scope.iter().chain(&pairs);
+    let bytes = numbers.flat_map(|n| n.to_be_bytes().into_iter().skip(from));
+    std::iter::once(8).chain(bytes).collect()
+}
+
+/// Puts a good checksum at the end of the PDU that the buffer declares, if it holds one.
+pub fn seal(bytes: &mut [u8]) {
+    let &mut [first, high, low, widths, ..] = bytes else {
+        return;
+    };
+    let header = 4 + 2 * (usize::from(widths >> 4 & 7) + 1) + usize::from(widths & 7) + 1;
+    let end = header + usize::from(u16::from_be_bytes([high, low]));
+    if first >> 1 & 1 == 1 && end <= bytes.len() {
+        let sum = checksum(&bytes[..end - 2]);
+        bytes[end - 2..end].copy_from_slice(&sum.to_be_bytes());
+    }
+}
