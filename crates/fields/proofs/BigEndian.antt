@@ -4,19 +4,19 @@ use mathlib.Core.Path.{_≡_, refl, sym, ap, _∙_}
 use mathlib.Core.Bool.{Bool, true, false, _&&_}
 use mathlib.Core.List.{List, [], _∷_, _++_, append-assoc}
 use Prim.Native.Nat.{ℕ, zero, suc, _+_, _-_, _*_, _/_, _%_, _^_, _<_, _≤_}
-use native.Mathlib.Nat.{div-add-mod', pow-suc, pow-le-pow-right, div-lt-iff-lt-mul, add-suc, add-zero, sub-zero, lt-of-not-le}
+use native.Mathlib.Nat.{div-add-mod', pow-suc, pow-le-pow-right, div-lt-iff-lt-mul, add-suc, suc-add, add-zero, zero-add, sub-zero, lt-of-not-le, lt-of-lt-of-le}
 use native.Mathlib.Decide.{decLe}
 use native.Mathlib.Numerals.{add-one}
 use native.Mathlib.Omega.{arith}
 use lib.Arith.{digits-lt, lt-one}
 use lib.Dec.{leb}
 use lib.ListN.{length, take, drop, set, getD, length-append, length-take, length-drop, length-set, take-append-drop}
-use lib.Seq.{drop-cons, append-snoc, take-set-le, drop-set-lt, getD-set-same, take-at, drop-at, take-take, drop-drop}
+use lib.Seq.{drop-cons, append-snoc, take-set-le, drop-set-lt, getD-set-same, take-at, drop-at, take-take, drop-drop, getD-drop}
 use borrow.Author.Tests.{le-leb, lt-leb, leb-true}
 use Rattle.fields.specs.Choice.{if_then_else_}
 use Rattle.fields.specs.Width.{fitsWidth}
 use Rattle.fields.proofs.Width.{lt-fits}
-use Rattle.fields.specs.BigEndian.{beFrom, beValue, beBytes, numberAt, overwritten, liesIn, beAt, bePut}
+use Rattle.fields.specs.BigEndian.{Bytes, beFrom, beValue, beBytes, numberAt, overwritten, liesIn, beAt, bePut}
 
 -- ---- the bytes of a number
 
@@ -70,6 +70,36 @@ unfolding beFrom
 read-done v m s at w i h e =
     let z : w - i ≡ 0 = omega arith in
     rw z at e
+
+-- ---- bytes are below a power of 256
+
+from-lt : (xs : List ℕ) (k v : ℕ) → Bytes xs → v < 256 ^ k → beFrom v xs < 256 ^ (length xs + k)
+unfolding beFrom
+from-lt [] k v h l = rw zero-add l
+from-lt (x ∷ xs) k v h l =
+    let g : v * 256 + x < 256 ^ suc k = rw pow-suc (digits-lt l (h 0)) in
+    rw (suc-add, ← add-suc (length xs) k) (from-lt xs (suc k) (v * 256 + x) (λ i. h (suc i)) g)
+
+be-lt : (xs : List ℕ) → Bytes xs → beValue xs < 256 ^ length xs
+unfolding beValue
+be-lt xs h = rw add-zero at (from-lt xs 0 0 h (omega arith))
+
+pub bytes-take : (n : ℕ) (s : List ℕ) → Bytes s → Bytes (take n s)
+bytes-take zero s h i = omega arith
+bytes-take (suc n) [] h i = h i
+bytes-take (suc n) (x ∷ s) h zero = h 0
+bytes-take (suc n) (x ∷ s) h (suc i) = bytes-take n s (λ j. h (suc j)) i
+
+bytes-drop : (n : ℕ) (s : List ℕ) → Bytes s → Bytes (drop n s)
+bytes-drop n s h i = rw getD-drop (h (n + i))
+
+-- a number of w bytes fits w bytes
+pub number-lt : (s : List ℕ) (at w : ℕ) → Bytes s → numberAt s at w < 256 ^ w
+unfolding numberAt
+number-lt s at w h =
+    let p = be-lt (take w (drop at s)) (bytes-take w (drop at s) (bytes-drop at s h)) in
+    let m : length (take w (drop at s)) ≤ w = omega (arith, length-take w (drop at s)) in
+    lt-of-lt-of-le p (pow-le-pow-right (omega arith) {i = length (take w (drop at s))} {j = w} m)
 
 -- ---- the loop of a writer
 

@@ -8,7 +8,7 @@ use native.Mathlib.Omega.{arith}
 use lib.Dec.{eqb}
 use lib.ListN.{getD}
 use Rattle.fields.specs.Choice.{if_then_else_}
-use Rattle.fields.specs.Answer.{Answer, accepted, short, refused, told, andThen, Test, firstOf}
+use Rattle.fields.specs.Answer.{Answer, accepted, short, refused, told, andThen, Test, firstOf, leaves}
 
 -- every test is false
 abbrev pub Passed : List Test → Type 0
@@ -30,6 +30,13 @@ passed (t ∷ ts) x y e =
     let q = passed ts x y (p .1) in
     ((p .0, q .0), q .1)
 
+-- and so every test of each part
+pub passed-whole : {A : Type 0} (ts us : List Test) (x y : A) → accepted x ≡ firstOf (ts ++ us) y → Passed ts
+passed-whole [] us x y e = tt
+passed-whole (t ∷ ts) us x y e =
+    let p = one (t .holds) (t .says) x (firstOf (ts ++ us) y) e in
+    (p .0, passed-whole ts us x y (p .1))
+
 -- where the tests of a part are passed, the rest decides
 pub passed-on : {A : Type 0} (ts us : List Test) (a : A) → Passed ts → firstOf (ts ++ us) a ≡ firstOf us a
 passed-on [] us a p = refl
@@ -47,7 +54,7 @@ module _ {A : Type 0} (ns : List ℕ) where
 
 module _ {A B : Type 0} (ns : List ℕ) where
   -- a refusal is the same of whatever might have been accepted
-  told-as : (ms : List ℕ) → _≡_ {A = Answer A} (told ns) (refused ms) → _≡_ {A = Answer B} (told ns) (refused ms)
+  pub told-as : (ms : List ℕ) → _≡_ {A = Answer A} (told ns) (refused ms) → _≡_ {A = Answer B} (told ns) (refused ms)
   unfolding told
   told-as ms e = go (eqb (getD ns 0 0) 1) e
     where
@@ -74,3 +81,12 @@ module _ {A B : Type 0} (ns : List ℕ) where
       go : (c : Bool) → andThen (if c then short (getD ns 1 0) (getD ns 2 0) else refused ns) f ≡ (if c then short (getD ns 1 0) (getD ns 2 0) else refused ns)
       go true = refl
       go false = refl
+
+-- a refused write changes no byte
+pub told-leaves : {A : Type 0} (ns : List ℕ) (o : Answer A) (bytes : A → List ℕ) (s : List ℕ) → told ns ≡ o → s ≡ leaves o bytes s
+unfolding told
+told-leaves {A} ns o bytes s e = go (eqb (getD ns 0 0) 1) e
+  where
+    go : (c : Bool) → _≡_ {A = Answer A} (if c then short (getD ns 1 0) (getD ns 2 0) else refused ns) o → s ≡ leaves o bytes s
+    go true d = ap (λ (a : Answer A). leaves a bytes s) d
+    go false d = ap (λ (a : Answer A). leaves a bytes s) d

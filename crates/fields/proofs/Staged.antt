@@ -13,8 +13,9 @@ use lib.Seq.{take-append-le, take-all}
 use lib.Dec.{ltb}
 use borrow.Author.Tests.{ltb-true, ltb-false, lt-ltb, le-ltb}
 use Rattle.fields.specs.Choice.{if_then_else_}
-use Rattle.fields.specs.Answer.{Answer, accepted, short, refused, andThen}
-use Rattle.fields.specs.Staged.{Staged, accept, refuseIf, need, run, _>>=_}
+use Rattle.fields.specs.Answer.{Answer, accepted, short, refused, told, andThen, Test, firstOf}
+use Rattle.fields.specs.Staged.{Staged, accept, refuseIf, need, run, _>>=_, _>>_, tests}
+use Rattle.fields.proofs.Judging.{Passed, told-no, told-as}
 use Rattle.fields.specs.Demand3.{Final, firsts, wait, heard, Demand3, AtMost}
 
 pub run-bind : {A B : Type 0} (r : Staged A) (f : A → Staged B) (s : List ℕ) → run (r >>= f) s ≡ andThen (run r s) (λ a. run (f a) s)
@@ -26,6 +27,20 @@ run-bind (need n next) f s = go (ltb (length s) n) (run-bind (next (take n s)) f
     go : (c : Bool) → run (next (take n s) >>= f) s ≡ andThen (run (next (take n s)) s) (λ a. run (f a) s) → (if c then short (length s) n else run (next (take n s) >>= f) s) ≡ andThen (if c then short (length s) n else run (next (take n s)) s) (λ a. run (f a) s)
     go true e = refl
     go false e = e
+
+-- tests in front of stages: where one holds, that is the answer; where all are passed, the stages decide
+pub tests-refused : {A B : Type 0} (ns : List ℕ) (ts : List Test) (r : Staged B) (a : A) (s : List ℕ) → told ns ≡ firstOf ts a → told ns ≡ run (tests ts >> r) s
+tests-refused ns [] r a s e = absurd (told-no ns a e)
+tests-refused {A} {B} ns (t ∷ ts) r a s e = go (t .holds) e (λ d. tests-refused ns ts r a s d)
+  where
+    go : (c : Bool) → told ns ≡ (if c then refused (t .says) else firstOf ts a) → (told ns ≡ firstOf ts a → told ns ≡ run (tests ts >> r) s)
+        → told ns ≡ (if c then refused (t .says) else run (tests ts >> r) s)
+    go true d rest = told-as ns (t .says) d
+    go false d rest = rest d
+
+pub tests-passed : {A : Type 0} (ts : List Test) (r : Staged A) (s : List ℕ) → Passed ts → run (tests ts >> r) s ≡ run r s
+tests-passed [] r s p = refl
+tests-passed (t ∷ ts) r s p = rw (p .0) (tests-passed ts r s (p .1))
 
 pub at-most-more : {A : Type 0} (r : Staged A) (j k : ℕ) → AtMost r k → AtMost r (j + k)
 at-most-more (accept a) j k h = tt

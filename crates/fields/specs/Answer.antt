@@ -1,9 +1,9 @@
 -- Answers in document 01's terms: what is accepted, or a refusal's number and values. 'The first that holds is the answer.'
 use Prim.Native.Nat.{ℕ}
 use mathlib.Core.Bool.{Bool}
-use mathlib.Core.List.{List, [], _∷_}
+use mathlib.Core.List.{List, [], _∷_, _++_}
 use lib.Dec.{eqb}
-use lib.ListN.{getD}
+use lib.ListN.{length, getD, drop}
 use Rattle.fields.specs.Choice.{if_then_else_}
 
 -- `short` is refusal 1, with the length and the needed length: it stands by itself because demand 3 speaks of it
@@ -34,3 +34,9 @@ when c ns = record { holds = c; says = ns }
 abbrev pub firstOf : {A : Type 0} → List Test → A → Answer A
 firstOf [] a = accepted a
 firstOf (t ∷ ts) a = if t .holds then refused (t .says) else firstOf ts a
+
+-- the lent buffer at exit of a write: the bytes of what was accepted in front, the rest as it was; a refusal changes no byte
+abbrev pub leaves : {A : Type 0} → Answer A → (A → List ℕ) → List ℕ → List ℕ
+leaves (accepted a) bytes s = bytes a ++ drop (length (bytes a)) s
+leaves (short l n) bytes s = s
+leaves (refused ns) bytes s = s

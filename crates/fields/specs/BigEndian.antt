@@ -1,11 +1,15 @@
 -- Numbers as bytes, the most significant first, once over the width: the number that bytes are, the bytes of a number, and a number read from and written to a place.
-use Prim.Native.Nat.{ℕ, zero, suc, _+_, _*_, _/_, _%_}
+use Prim.Native.Nat.{ℕ, zero, suc, _+_, _*_, _/_, _%_, _<_}
 use mathlib.Core.Bool.{Bool, _&&_}
 use mathlib.Core.List.{List, [], _∷_, _++_}
 use lib.Dec.{leb}
-use lib.ListN.{length, take, drop}
+use lib.ListN.{length, getD, take, drop}
 use Rattle.fields.specs.Choice.{if_then_else_}
 use Rattle.fields.specs.Width.{fitsWidth}
+
+-- each element is a byte
+abbrev pub Bytes : List ℕ → Type 0
+Bytes s = (i : ℕ) → getD s i 0 < 256
 
 -- the number that bytes are, after those that are v
 unfoldable pub beFrom : ℕ → List ℕ → ℕ

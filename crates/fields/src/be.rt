@@ -29,7 +29,7 @@ fn lies_in(len: usize, at: usize, width: usize) -> bool
 
 fn number_at(s: &[u8], at: usize, width: usize) -> u64
     requires { ⌜ (width ≤ 8) × (at + width ≤ length (now s)) ⌝ }
-    ensures { λ r. ⌜ r ≡ numberAt (now (s .entry)) at width ⌝ }
+    ensures { λ r. ⌜ (r ≡ numberAt (now (s .entry)) at width) × (r < 256 ^ width) ⌝ }
 {
     let mut value: u64 = 0;
     let mut i = 0;
@@ -41,9 +41,9 @@ fn number_at(s: &[u8], at: usize, width: usize) -> u64
 }
 
 // The number that the `width` bytes from `at` are. Bytes that do not all lie in `s`, or more than 8 of them, are no
-// number and read as 0.
+// number and read as 0. What is read has no more bytes than were asked for.
 pub fn read_be(s: &[u8], at: usize, width: usize) -> u64
-    ensures { λ r. ⌜ r ≡ beAt (now (s .entry)) at width ⌝ }
+    ensures { λ r. ⌜ (r ≡ beAt (now (s .entry)) at width) × (r < 256 ^ width) ⌝ }
 {
     if !lies_in(s.len(), at, width) {
         return 0;

@@ -52,7 +52,11 @@ loop-again c =
     )
 
 returns : tie.Need-returns Inv-loop μ-loop
-returns c = read-done _ _ _ _ (c .before .before .before .args .width) (c .before .loop .i) (omega arith) (c .before .loop .inv .2)
+returns c =
+    let a = c .before .before .before .args in
+    let l = c .before .loop in
+    let e : l .i ≡ a .width = omega arith in
+    (read-done _ _ _ _ (a .width) (l .i) (omega arith) (l .inv .2), rw e at (l .inv .1))
 
 pub number-at-spec : {M : Type 1} → statement M
 number-at-spec =

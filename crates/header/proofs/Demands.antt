@@ -1,0 +1,90 @@
+-- The statements of specs/Demands, proved.
+-- Assumes nothing.
+use Prim.Native.Nat.{ℕ, _+_, _*_, _^_, _<_}
+use mathlib.Core.Path.{_≡_, refl, sym, ap, _∙_}
+use mathlib.Core.Bool.{true}
+use mathlib.Core.List.{List}
+use native.Mathlib.Omega.{arith}
+use lib.Dec.{lit<}
+use lib.ListN.{length, getD, take}
+use lib.Seq.{getD-take}
+use borrow.Author.Tests.{not-false}
+use Rattle.fields.specs.Width.{isWidth, fitsField}
+use Rattle.fields.specs.BigEndian.{Bytes, numberAt}
+use Rattle.fields.specs.Answer.{Answer, accepted}
+use Rattle.fields.specs.Staged.{run}
+use Rattle.fields.specs.Demand3.{AtMost}
+use Rattle.fields.proofs.Width.{lt-fits}
+use Rattle.fields.proofs.BigEndian.{bytes-take, number-lt}
+use Rattle.fields.proofs.Judging.{Passed}
+use Rattle.fields.proofs.Staged.{passed-all, demand3}
+use Rattle.fields.proofs.OneToOne.{answerBack, told-back, one-to-one}
+use Rattle.header.specs.declared.PduHeader.{PduHeader}
+use Rattle.header.specs.declared.HeaderResult.{HeaderResult}
+use Rattle.header.specs.declared.HeaderResult.the-variants.{Header, Refused}
+use Rattle.header.specs.declared.LengthResult.{LengthResult}
+use Rattle.header.specs.declared.LengthResult.the-variants.{Length, Refused as NoLength}
+use Rattle.header.specs.Answers.{headerAnswer, lengthAnswer}
+use Rattle.header.specs.Judging.{recordTests, building}
+use Rattle.header.specs.Reading.{entityWidthIn, sequenceWidthIn, headerLengthIn, headerIn, readingHeader}
+use Rattle.header.specs.Demands.{HeaderReadsBack, ReadIsSound, HeaderDemand3, OneHeaderResult, OneLengthResult}
+use Rattle.header.proofs.Judging.{sound, all-right}
+use Rattle.header.proofs.Writing.{written-passed}
+use Rattle.header.proofs.RoundTrip.{reads-back}
+
+-- ---- one answer
+
+header-back : (r : HeaderResult) → answerBack Header Refused (headerAnswer r) ≡ r
+header-back (Header h) = refl
+header-back (Refused r) = told-back Header Refused r
+
+pub one-header-result : OneHeaderResult
+one-header-result = one-to-one headerAnswer (answerBack Header Refused) header-back
+
+length-result-back : (r : LengthResult) → answerBack Length NoLength (lengthAnswer r) ≡ r
+length-result-back (Length n) = refl
+length-result-back (NoLength r) = told-back Length NoLength r
+
+pub one-length-result : OneLengthResult
+one-length-result = one-to-one lengthAnswer (answerBack Length NoLength) length-result-back
+
+-- ---- demand 3
+
+pub header-two : AtMost readingHeader 2
+unfolding readingHeader
+header-two = λ _ _. tt
+
+pub header-demand3 : HeaderDemand3
+header-demand3 = demand3 (run readingHeader) 2 readingHeader header-two (λ s. refl)
+
+-- ---- demand 2: what is written reads back
+
+widths-right : (h : PduHeader) → Passed (recordTests h) → (isWidth (h .source .0 .width) ≡ true) × (isWidth (h .sequence .0 .width) ≡ true)
+unfolding recordTests
+widths-right h p = (not-false _ (p .1 .0), not-false _ (p .1 .1 .0))
+
+pub header-reads-back : HeaderReadsBack
+header-reads-back h room n t small e =
+    let p = written-passed h room n (sym e) in
+    let w = widths-right h p in
+    reads-back h (sound h p) small t (w .0) (w .1)
+
+-- ---- demand 2: what was read is sound
+
+-- a header that stands in bytes has one width for both identifiers, and its values fit
+in-bytes : (a : List ℕ) → Bytes a → isWidth (entityWidthIn a) ≡ true → isWidth (sequenceWidthIn a) ≡ true → accepted (headerIn a) ≡ building (headerIn a)
+unfolding headerIn
+in-bytes a b we wq =
+    all-right (headerIn a) refl we wq (lt-fits _ _ (number-lt a _ _ b)) (lt-fits _ _ (number-lt a _ _ b)) (lt-fits _ _ (number-lt a _ _ b))
+
+pub read-is-sound : ReadIsSound
+unfolding readingHeader
+read-is-sound s h b e =
+    let p = passed-all readingHeader s h e in
+    let n = headerLengthIn (take 4 s) in
+    let a = take n s in
+    let same : getD a 3 0 ≡ getD (take 4 s) 3 0 = getD-take n s 3 0 (omega arith) ∙ sym (getD-take 4 s 3 0 (lit< tt)) in
+    let we : isWidth (entityWidthIn a) ≡ true = rw same (not-false _ (p .1 .1 .0)) in
+    let wq : isWidth (sequenceWidthIn a) ≡ true = rw same (not-false _ (p .1 .1 .1 .0)) in
+    let is : headerIn a ≡ h = p .1 .1 .1 .1 .1 in
+    ap building (sym is) ∙ sym (in-bytes a (bytes-take n s b) we wq) ∙ ap accepted is

@@ -1,0 +1,9 @@
+-- Laws of the definitions, which upper crates cite too. The proof of a function stands in the folder of its name.
+pub mod FlagBits
+pub mod Judging
+pub mod Reading
+pub mod Writing
+pub mod Verifying
+pub mod Comparing
+pub mod RoundTrip
+pub mod Demands

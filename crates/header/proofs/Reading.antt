@@ -1,0 +1,96 @@
+-- Reading a header: its answer at each exit, and a header made of its parts.
+-- Assumes nothing.
+use Prim.Native.Nat.{ℕ, _+_, _*_, _/_, _%_, _≤_, _<_}
+use mathlib.Core.Path.{_≡_, refl, sym, ap, _∙_}
+use mathlib.Core.Bool.{Bool, true, false}
+use mathlib.Core.List.{List, [], _∷_}
+use native.Mathlib.Omega.{arith}
+use native.Mathlib.Nat.{le-of-eq}
+use lib.Dec.{lit<}
+use lib.ListN.{length, getD, take}
+use lib.Seq.{getD-take, length-take-le}
+use borrow.Author.Tests.{lt-ltb, le-ltb, eq-eqb, ne-eqb}
+use Rattle.fields.specs.declared.field.UnsignedByteField.{UnsignedByteField}
+use Rattle.fields.specs.Width.{isWidth}
+use Rattle.fields.specs.BigEndian.{numberAt, beAt}
+use Rattle.fields.specs.Answer.{Answer, accepted, told}
+use Rattle.fields.specs.Staged.{run}
+use Rattle.fields.proofs.BigEndian.{at-number}
+use Rattle.header.specs.declared.PduHeader.{PduHeader}
+use Rattle.header.specs.declared.flags.PduType.{PduType}
+use Rattle.header.specs.declared.flags.Direction.{Direction}
+use Rattle.header.specs.declared.flags.TransmissionMode.{TransmissionMode}
+use Rattle.header.specs.declared.flags.CrcFlag.{CrcFlag}
+use Rattle.header.specs.declared.flags.LargeFileFlag.{LargeFileFlag}
+use Rattle.header.specs.declared.flags.SegmentationControl.{SegmentationControl}
+use Rattle.header.specs.declared.flags.SegmentMetadataFlag.{SegmentMetadataFlag}
+use Rattle.header.specs.Flags.{pduTypeIf, directionIf, modeIf, crcIf, fileIf, controlIf, metadataIf}
+use Rattle.header.specs.Reading.{isSet, versionIn, entityWidthIn, sequenceWidthIn, headerLengthIn, headerIn, readingHeader}
+
+module _ (s : List ℕ) where
+  pub short-4 : length s < 4 → told (1 ∷ length s ∷ 4 ∷ []) ≡ run readingHeader s
+  unfolding told readingHeader
+  short-4 h = rw (lt-ltb _ _ h)
+
+  module _ (long : 4 ≤ length s) where
+    pub bad-version : (v : ℕ) → v ≡ versionIn (take 4 s) → (v ≡ 1 → ⊥) → told (2 ∷ v ∷ []) ≡ run readingHeader s
+    unfolding told readingHeader
+    bad-version v p n = rw p (rw (le-ltb _ _ long, ne-eqb _ _ (rw p at n)))
+
+    module _ (one : versionIn (take 4 s) ≡ 1) where
+      pub bad-entity : (e : ℕ) → e ≡ entityWidthIn (take 4 s) → isWidth e ≡ false → told (3 ∷ e ∷ []) ≡ run readingHeader s
+      unfolding told readingHeader
+      bad-entity e p w = rw p (rw (le-ltb _ _ long, eq-eqb _ _ one, rw p at w))
+
+      module _ (e : ℕ) (pe : e ≡ entityWidthIn (take 4 s)) (we : isWidth e ≡ true) where
+        pub bad-sequence : (q : ℕ) → q ≡ sequenceWidthIn (take 4 s) → isWidth q ≡ false → told (4 ∷ q ∷ []) ≡ run readingHeader s
+        unfolding told readingHeader
+        bad-sequence q p w = rw p (rw (le-ltb _ _ long, eq-eqb _ _ one, rw pe at we, rw p at w))
+
+        module _ (q : ℕ) (pq : q ≡ sequenceWidthIn (take 4 s)) (wq : isWidth q ≡ true) (h : ℕ) (ph : h ≡ headerLengthIn (take 4 s)) where
+          pub short-h : length s < h → told (1 ∷ length s ∷ h ∷ []) ≡ run readingHeader s
+          unfolding told readingHeader
+          short-h t = rw (le-ltb _ _ long, eq-eqb _ _ one, rw pe at we, rw pq at wq, ← ph, lt-ltb _ _ t)
+
+          pub whole : h ≤ length s → accepted (headerIn (take h s)) ≡ run readingHeader s
+          unfolding readingHeader
+          whole t = rw (le-ltb _ _ long, eq-eqb _ _ one, rw pe at we, rw pq at wq, ← ph, le-ltb _ _ t)
+
+-- the first h bytes hold the header
+pub holds : (s : List ℕ) (h : ℕ) → h ≡ headerLengthIn (take 4 s) → h ≤ length s → headerLengthIn (take h s) ≤ length (take h s)
+holds s h p l =
+    let k : 3 < h = omega arith in
+    let e : h ≡ headerLengthIn s = rw (getD-take 4 s 3 0 (lit< tt)) at p in
+    rw (getD-take h s 3 0 k, length-take-le h s l) (le-of-eq (sym e))
+
+-- a header is made of its parts
+module _ (s : List ℕ) (long : headerLengthIn s ≤ length s) where
+  number-is : (at w x : ℕ) → x ≡ beAt s at w → w ≤ 8 → at + w ≤ length s → x ≡ numberAt s at w
+  number-is at w x p h k = p ∙ at-number s at w h k
+
+  pub header-is : (kind : PduType) (direction : Direction) (mode : TransmissionMode) (crc : CrcFlag) (file : LargeFileFlag) (control : SegmentationControl) (metadata : SegmentMetadataFlag)
+      (d e q x y z : ℕ) (a i t : UnsignedByteField)
+      → kind ≡ pduTypeIf (isSet (getD s 0 0) 16)
+      → direction ≡ directionIf (isSet (getD s 0 0) 8)
+      → mode ≡ modeIf (isSet (getD s 0 0) 4)
+      → crc ≡ crcIf (isSet (getD s 0 0) 2)
+      → file ≡ fileIf (isSet (getD s 0 0) 1)
+      → control ≡ controlIf (isSet (getD s 3 0) 128)
+      → metadata ≡ metadataIf (isSet (getD s 3 0) 8)
+      → e ≡ entityWidthIn s
+      → q ≡ sequenceWidthIn s
+      → d ≡ beAt s 1 2
+      → x ≡ beAt s 4 e
+      → y ≡ beAt s (4 + e) q
+      → z ≡ beAt s (4 + e + q) e
+      → a ≡ record { width = e; value = x }
+      → i ≡ record { width = q; value = y }
+      → t ≡ record { width = e; value = z }
+      → record { kind = kind; direction = direction; mode = mode; crc = crc; file = file; length = d; control = control; metadata = metadata; source = record { 0 = a }; sequence = record { 0 = i }; destination = record { 0 = t } } ≡ headerIn s
+  unfolding headerIn
+  header-is kind direction mode crc file control metadata d e q x y z a i t pk pd pm pc pf pg ps pe pq pl px py pz pa pi pt =
+      let pl′ : d ≡ numberAt s 1 2 = number-is 1 2 d pl (omega arith) (omega arith) in
+      let px′ : x ≡ numberAt s 4 e = number-is 4 e x px (omega arith) (omega arith) in
+      let py′ : y ≡ numberAt s (4 + e) q = number-is (4 + e) q y py (omega arith) (omega arith) in
+      let pz′ : z ≡ numberAt s (4 + e + q) e = number-is (4 + e + q) e z pz (omega arith) (omega arith) in
+      rw (pa, pi, pt, pk, pd, pm, pc, pf, pg, ps, pl′, px′, py′, pz′, pe, pq)

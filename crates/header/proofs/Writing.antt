@@ -1,0 +1,102 @@
+-- Writing a header: what the writer's calls leave in the buffer, and its answer at each exit.
+-- Assumes nothing.
+use Prim.Native.Nat.{ℕ, _+_, _-_, _*_, _^_, _≤_, _<_}
+use mathlib.Core.Path.{_≡_, refl, sym, ap, _∙_}
+use mathlib.Core.List.{List, [], _∷_, _++_}
+use native.Mathlib.Omega.{arith}
+use lib.Dec.{lit<}
+use lib.ListN.{length, drop, length-append}
+use borrow.Author.Tests.{lt-ltb, le-ltb, ltb-false}
+use Rattle.fields.specs.BigEndian.{beBytes, bePut}
+use Rattle.fields.specs.Answer.{Answer, accepted, told, firstOf, leaves}
+use Rattle.fields.proofs.BigEndian.{be-length, then-put, then-length}
+use Rattle.fields.proofs.Judging.{Passed, passed, passed-whole, passed-on, refused-on, told-leaves}
+use Rattle.header.specs.declared.PduHeader.{PduHeader}
+use Rattle.header.specs.Header.{entityWidth, sequenceWidth, headerLength, firstByte, fourthByte, headerBytes}
+use Rattle.header.specs.Judging.{recordTests, building, Sound}
+use Rattle.header.specs.Writing.{outputTests, writingHeader, headerMemory}
+
+pub header-length : (h : PduHeader) → length (headerBytes h) ≡ headerLength h
+unfolding headerBytes headerLength
+header-length h = simp (length-append, be-length) (omega arith)
+
+-- the six fields, one behind the other
+pub fields-put : (h : PduHeader) (s b₁ b₂ b₃ b₄ b₅ b₆ : List ℕ) (f g : ℕ) → Sound h → headerLength h ≤ length s → h .length < 2 ^ 16
+    → f < 256 → g < 256 → f ≡ firstByte h → g ≡ fourthByte h
+    → b₁ ≡ bePut s 0 1 f
+    → b₂ ≡ bePut b₁ 1 2 (h .length)
+    → b₃ ≡ bePut b₂ 3 1 g
+    → b₄ ≡ bePut b₃ 4 (entityWidth h) (h .source .0 .value)
+    → b₅ ≡ bePut b₄ (4 + entityWidth h) (sequenceWidth h) (h .sequence .0 .value)
+    → b₆ ≡ bePut b₅ (4 + entityWidth h + sequenceWidth h) (entityWidth h) (h .destination .0 .value)
+    → b₆ ≡ headerBytes h ++ drop (headerLength h) s
+unfolding headerBytes headerLength
+fields-put h s b₁ b₂ b₃ b₄ b₅ b₆ f g k room small lf lg ef eg e₁ e₂ e₃ e₄ e₅ e₆ =
+    let e = entityWidth h in
+    let q = sequenceWidth h in
+    let a₁ = beBytes 1 f in
+    let a₂ = a₁ ++ beBytes 2 (h .length) in
+    let a₃ = a₂ ++ beBytes 1 g in
+    let a₄ = a₃ ++ beBytes e (h .source .0 .value) in
+    let a₅ = a₄ ++ beBytes q (h .sequence .0 .value) in
+    let a₆ = a₅ ++ beBytes e (h .destination .0 .value) in
+    let l₁ = be-length 1 f in
+    let l₂ = then-length a₁ 1 2 (h .length) l₁ in
+    let l₃ = then-length a₂ 3 1 g l₂ in
+    let l₄ = then-length a₃ 4 e (h .source .0 .value) l₃ in
+    let l₅ = then-length a₄ (4 + e) q (h .sequence .0 .value) l₄ in
+    let p₁ = then-put [] s 0 1 f refl (omega arith) (omega arith) lf refl e₁ in
+    let p₂ = then-put a₁ s 1 2 (h .length) l₁ (omega arith) (omega arith) small p₁ e₂ in
+    let p₃ = then-put a₂ s 3 1 g l₂ (omega arith) (omega arith) lg p₂ e₃ in
+    let p₄ = then-put a₃ s 4 e (h .source .0 .value) l₃ (k .entity-high) (omega arith) (k .source-fits) p₃ e₄ in
+    let p₅ = then-put a₄ s (4 + e) q (h .sequence .0 .value) l₄ (k .sequence-high) (omega arith) (k .sequence-fits) p₄ e₅ in
+    let p₆ = then-put a₅ s (4 + e + q) e (h .destination .0 .value) l₅ (k .entity-high) (omega arith) (k .destination-fits) p₅ e₆ in
+    let n : 4 + e + q + e ≡ 4 + 2 * e + q = omega arith in
+    p₆ ∙ ap (λ (j : ℕ). a₆ ++ drop j s) n ∙ rw (ef, eg)
+
+-- a refused write: the answer, and no byte changed
+pub refused-write : (h : PduHeader) (s ns : List ℕ) → told ns ≡ writingHeader h (length s) → (told ns ≡ writingHeader h (length s)) × (s ≡ headerMemory h s)
+unfolding headerMemory
+refused-write h s ns e = (e, told-leaves ns (writingHeader h (length s)) (λ _. headerBytes h) s e)
+
+-- what the judgement refuses the writer refuses
+pub refused-record : (h : PduHeader) (room : ℕ) (ns : List ℕ) → told ns ≡ building h → told ns ≡ writingHeader h room
+unfolding building writingHeader
+refused-record h room ns e = refused-on ns (recordTests h) (outputTests h room) h (headerLength h) e
+
+module _ (h : PduHeader) (good : Passed (recordTests h)) (room : ℕ) where
+  rest : writingHeader h room ≡ firstOf (outputTests h room) (headerLength h)
+  unfolding writingHeader
+  rest = passed-on (recordTests h) (outputTests h room) (headerLength h) good
+
+  pub short-of-four : room < 4 + entityWidth h + sequenceWidth h → told (11 ∷ room ∷ 4 ∷ []) ≡ writingHeader h room
+  unfolding told outputTests
+  short-of-four l = rw (rest, lt-ltb _ _ l)
+
+  module _ (some : 4 + entityWidth h + sequenceWidth h ≤ room) where
+    pub short-of-h : room < headerLength h → told (11 ∷ room ∷ headerLength h ∷ []) ≡ writingHeader h room
+    unfolding told outputTests
+    short-of-h l = rw (rest, le-ltb _ _ some, lt-ltb _ _ l)
+
+    pub enough : headerLength h ≤ room → accepted (headerLength h) ≡ writingHeader h room
+    unfolding outputTests
+    enough l = rw (rest, le-ltb _ _ some, le-ltb _ _ l)
+
+-- an accepted write: the record passed every test, and there is room
+pub written-passed : (h : PduHeader) (room n : ℕ) → accepted n ≡ writingHeader h room → Passed (recordTests h)
+unfolding writingHeader
+written-passed h room n e = passed-whole (recordTests h) (outputTests h room) n (headerLength h) e
+
+pub written-room : (h : PduHeader) (room n : ℕ) → accepted n ≡ writingHeader h room → headerLength h ≤ room
+unfolding outputTests
+written-room h room n e =
+    let p = passed (outputTests h room) n (headerLength h) (e ∙ rest h (written-passed h room n e) room) in
+    ltb-false _ _ (p .0 .1 .0)
+
+-- and the buffer then has the header's bytes in front, the rest as it was
+pub accepted-write : (h : PduHeader) (s b : List ℕ) (n : ℕ) → accepted n ≡ writingHeader h (length s) → b ≡ headerBytes h ++ drop (headerLength h) s
+    → (accepted n ≡ writingHeader h (length s)) × (b ≡ headerMemory h s)
+unfolding headerMemory
+accepted-write h s b n e q =
+    let m : headerBytes h ++ drop (length (headerBytes h)) s ≡ leaves (writingHeader h (length s)) (λ _. headerBytes h) s = ap (λ (o : Answer ℕ). leaves o (λ _. headerBytes h) s) e in
+    (e, q ∙ ap (λ (k : ℕ). headerBytes h ++ drop k s) (sym (header-length h)) ∙ m)

@@ -1,0 +1,159 @@
+-- `header::read::header_in` meets its contract: each part is what the definition says.
+-- Assumes nothing.
+use mathlib.Core.Path.{ap, _∙_}
+use native.Mathlib.Omega.{arith}
+use Rattle.header.specs.Flags.{pduTypeIf, directionIf, modeIf, crcIf, fileIf, controlIf, metadataIf}
+use Rattle.header.proofs.Reading.{header-is}
+use borrow.Author.Needs.{needs}
+use Rattle.header.proofs.read.header_in.Statement.{statement}
+use Rattle.header.proofs.read.header_in.Tie as tie
+
+shared-slice-read-first : tie.Need-shared-slice-read-first
+shared-slice-read-first c = search needs
+
+shared-slice-read-fourth : tie.Need-shared-slice-read-fourth
+shared-slice-read-fourth c = search needs
+
+width-at-requires : tie.Need-width-at-requires
+width-at-requires c κs = search needs
+
+width-at-requires-2 : tie.Need-width-at-requires-2
+width-at-requires-2 c κs = search needs
+
+cast-e : tie.Need-cast-e
+cast-e c = search needs
+
+cast-q : tie.Need-cast-q
+cast-q c = search needs
+
+read-be-requires : tie.Need-read-be-requires
+read-be-requires c κs = search needs
+
+cast-length : tie.Need-cast-length
+cast-length c = omega arith
+
+read-be-requires-2 : tie.Need-read-be-requires-2
+read-be-requires-2 c κs = search needs
+
+add-read-be : tie.Need-add-read-be
+add-read-be c = search needs
+
+read-be-requires-3 : tie.Need-read-be-requires-3
+read-be-requires-3 c κs = search needs
+
+add-read-be-2 : tie.Need-add-read-be-2
+add-read-be-2 c = search needs
+
+add-read-be-3 : tie.Need-add-read-be-3
+add-read-be-3 c = search needs
+
+read-be-requires-4 : tie.Need-read-be-requires-4
+read-be-requires-4 c κs = search needs
+
+bit-at-requires : tie.Need-bit-at-requires
+bit-at-requires c κs = search needs
+
+from-bit-requires : tie.Need-from-bit-requires
+from-bit-requires c κs = search needs
+
+bit-at-requires-2 : tie.Need-bit-at-requires-2
+bit-at-requires-2 c κs = search needs
+
+from-bit-requires-2 : tie.Need-from-bit-requires-2
+from-bit-requires-2 c κs = search needs
+
+bit-at-requires-3 : tie.Need-bit-at-requires-3
+bit-at-requires-3 c κs = search needs
+
+from-bit-requires-3 : tie.Need-from-bit-requires-3
+from-bit-requires-3 c κs = search needs
+
+bit-at-requires-4 : tie.Need-bit-at-requires-4
+bit-at-requires-4 c κs = search needs
+
+from-bit-requires-4 : tie.Need-from-bit-requires-4
+from-bit-requires-4 c κs = search needs
+
+bit-at-requires-5 : tie.Need-bit-at-requires-5
+bit-at-requires-5 c κs = search needs
+
+from-bit-requires-5 : tie.Need-from-bit-requires-5
+from-bit-requires-5 c κs = search needs
+
+bit-at-requires-6 : tie.Need-bit-at-requires-6
+bit-at-requires-6 c κs = search needs
+
+from-bit-requires-6 : tie.Need-from-bit-requires-6
+from-bit-requires-6 c κs = search needs
+
+bit-at-requires-7 : tie.Need-bit-at-requires-7
+bit-at-requires-7 c κs = search needs
+
+from-bit-requires-7 : tie.Need-from-bit-requires-7
+from-bit-requires-7 c κs = search needs
+
+new-requires : tie.Need-new-requires
+new-requires c κs = search needs
+
+new-requires-2 : tie.Need-new-requires-2
+new-requires-2 c κs = search needs
+
+new-requires-3 : tie.Need-new-requires-3
+new-requires-3 c κs = search needs
+
+returns : tie.Need-returns
+returns c =
+    header-is _ (c .before .before .before .before .before .before .before .before .before .before .before .before .before .before .before .before .before .before .before .before .before .before .before .before .before .before .pre) _ _ _ _ _ _ _ _ _ _ _ _ _ _ _ _
+    (c .before .before .before .before .before .before .before .before .before .before .before .before .before .before .before .from-bit .ensures ∙ ap pduTypeIf (c .before .before .before .before .before .before .before .before .before .before .before .before .before .before .before .before .bit-at .ensures))
+    (c .before .before .before .before .before .before .before .before .before .before .before .before .before .from-bit2 .ensures ∙ ap directionIf (c .before .before .before .before .before .before .before .before .before .before .before .before .before .before .bit-at2 .ensures))
+    (c .before .before .before .before .before .before .before .before .before .before .before .from-bit3 .ensures ∙ ap modeIf (c .before .before .before .before .before .before .before .before .before .before .before .before .bit-at3 .ensures))
+    (c .before .before .before .before .before .before .before .before .before .from-bit4 .ensures ∙ ap crcIf (c .before .before .before .before .before .before .before .before .before .before .bit-at4 .ensures))
+    (c .before .before .before .before .before .before .before .from-bit5 .ensures ∙ ap fileIf (c .before .before .before .before .before .before .before .before .bit-at5 .ensures))
+    (c .before .before .before .before .before .from-bit6 .ensures ∙ ap controlIf (c .before .before .before .before .before .before .bit-at6 .ensures))
+    (c .before .before .before .from-bit7 .ensures ∙ ap metadataIf (c .before .before .before .before .bit-at7 .ensures))
+    (c .before .before .before .before .before .before .before .before .before .before .before .before .before .before .before .before .before .before .before .before .before .before .width-at .ensures .0)
+    (omega (arith, c .before .before .before .before .before .before .before .before .before .before .before .before .before .before .before .before .before .before .before .before .before .width-at2 .ensures .0))
+    (c .before .before .before .before .before .before .before .before .before .before .before .before .before .before .before .before .before .before .before .before .read-be .ensures .0)
+    (c .before .before .before .before .before .before .before .before .before .before .before .before .before .before .before .before .before .before .before .read-be2 .ensures .0)
+    (c .before .before .before .before .before .before .before .before .before .before .before .before .before .before .before .before .before .before .read-be3 .ensures .0)
+    (c .before .before .before .before .before .before .before .before .before .before .before .before .before .before .before .before .before .read-be4 .ensures .0)
+    (c .before .before .new .ensures)
+    (c .before .new2 .ensures)
+    (c .new3 .ensures)
+
+pub header-in-spec : {M : Type 1} → statement M
+header-in-spec =
+    tie.close
+    (tie.spec
+    shared-slice-read-first
+    shared-slice-read-fourth
+    width-at-requires
+    width-at-requires-2
+    cast-e
+    cast-q
+    read-be-requires
+    cast-length
+    read-be-requires-2
+    add-read-be
+    read-be-requires-3
+    add-read-be-2
+    add-read-be-3
+    read-be-requires-4
+    bit-at-requires
+    from-bit-requires
+    bit-at-requires-2
+    from-bit-requires-2
+    bit-at-requires-3
+    from-bit-requires-3
+    bit-at-requires-4
+    from-bit-requires-4
+    bit-at-requires-5
+    from-bit-requires-5
+    bit-at-requires-6
+    from-bit-requires-6
+    bit-at-requires-7
+    from-bit-requires-7
+    new-requires
+    new-requires-2
+    new-requires-3
+    returns)

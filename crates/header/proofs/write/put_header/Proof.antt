@@ -1,0 +1,82 @@
+-- `header::write::put_header` meets its contract: six fields, each behind the one before.
+-- Assumes nothing.
+use native.Mathlib.Omega.{arith}
+use Rattle.header.proofs.Writing.{fields-put}
+use borrow.Author.Needs.{needs}
+use Rattle.header.proofs.write.put_header.Statement.{statement}
+use Rattle.header.proofs.write.put_header.Tie as tie
+
+cast-entity : tie.Need-cast-entity
+cast-entity c = search needs
+
+cast-sequence : tie.Need-cast-sequence
+cast-sequence c = search needs
+
+cast-length : tie.Need-cast-length
+cast-length c = search needs
+
+first-byte-requires : tie.Need-first-byte-requires
+first-byte-requires c κs = search needs
+
+cast-first : tie.Need-cast-first
+cast-first c = search needs
+
+fourth-byte-requires : tie.Need-fourth-byte-requires
+fourth-byte-requires c κs = search needs
+
+cast-fourth : tie.Need-cast-fourth
+cast-fourth c = search needs
+
+add-second : tie.Need-add-second
+add-second c = search needs
+
+add-third : tie.Need-add-third
+add-third c = search needs
+
+write-be-requires : tie.Need-write-be-requires
+write-be-requires c κs = search needs
+
+write-be-requires-2 : tie.Need-write-be-requires-2
+write-be-requires-2 c κs = search needs
+
+write-be-requires-3 : tie.Need-write-be-requires-3
+write-be-requires-3 c κs = search needs
+
+write-be-requires-4 : tie.Need-write-be-requires-4
+write-be-requires-4 c κs = search needs
+
+write-be-requires-5 : tie.Need-write-be-requires-5
+write-be-requires-5 c κs = search needs
+
+write-be-requires-6 : tie.Need-write-be-requires-6
+write-be-requires-6 c κs = search needs
+
+same-length : tie.Need-same-length
+same-length c = search needs
+
+returns : tie.Need-returns
+returns c =
+    fields-put _ _ _ _ _ _ _ _ _ _ (c .before .before .before .before .before .before .before .before .before .before .before .before .before .before .before .before .before .before .before .before .before .before .before .before .before .before .before .before .before .before .pre .0) (c .before .before .before .before .before .before .before .before .before .before .before .before .before .before .before .before .before .before .before .before .before .before .before .before .before .before .before .before .before .before .pre .1) (let k = c .before .before .before .before .before .before .before .before .before .before .before .before .before .before .before .before .before .before .before .before .before .before .before .before .before .before .struct-known3 .given in omega arith) (let k = c .before .before .before .before .before .before .before .before .before .before .before .before .before .before .before .before .before .before .before .before .before .before .before .before .before .first-byte in omega arith) (let k = c .before .before .before .before .before .before .before .before .before .before .before .before .before .before .before .before .before .before .before .before .before .before .before .before .fourth-byte in omega arith) (c .before .before .before .before .before .before .before .before .before .before .before .before .before .before .before .before .before .before .before .before .before .before .before .before .before .first-byte .ensures) (c .before .before .before .before .before .before .before .before .before .before .before .before .before .before .before .before .before .before .before .before .before .before .before .before .fourth-byte .ensures)
+    (c .before .before .before .before .before .before .before .before .before .before .before .before .before .before .before .before .before .before .before .before .before .before .write-be .ensures) (c .before .before .before .before .before .before .before .before .before .before .before .before .before .before .before .before .before .before .write-be2 .ensures) (c .before .before .before .before .before .before .before .before .before .before .before .before .before .before .write-be3 .ensures) (c .before .before .before .before .before .before .before .before .before .before .write-be4 .ensures) (c .before .before .before .before .before .before .write-be5 .ensures) (c .before .before .write-be6 .ensures)
+
+pub put-header-spec : {M : Type 1} → statement M
+put-header-spec =
+    tie.close
+    (tie.spec
+    cast-entity
+    cast-sequence
+    cast-length
+    first-byte-requires
+    cast-first
+    fourth-byte-requires
+    cast-fourth
+    add-second
+    add-third
+    write-be-requires
+    write-be-requires-2
+    write-be-requires-3
+    write-be-requires-4
+    write-be-requires-5
+    write-be-requires-6
+    same-length
+    returns)

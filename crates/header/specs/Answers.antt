@@ -1,0 +1,17 @@
+-- The answers of this layer in document 01's terms.
+use Prim.Native.Nat.{ℕ}
+use Rattle.fields.specs.Answer.{Answer, accepted, told}
+use Rattle.fields.specs.Refusal.{paper}
+use Rattle.header.specs.declared.PduHeader.{PduHeader}
+use Rattle.header.specs.declared.HeaderResult.{HeaderResult}
+use Rattle.header.specs.declared.HeaderResult.the-variants.{Header, Refused}
+use Rattle.header.specs.declared.LengthResult.{LengthResult}
+use Rattle.header.specs.declared.LengthResult.the-variants.{Length, Refused as NoLength}
+
+abbrev pub headerAnswer : HeaderResult → Answer PduHeader
+headerAnswer (Header h) = accepted h
+headerAnswer (Refused r) = told (paper r)
+
+abbrev pub lengthAnswer : LengthResult → Answer ℕ
+lengthAnswer (Length n) = accepted n
+lengthAnswer (NoLength r) = told (paper r)

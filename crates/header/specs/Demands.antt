@@ -1,0 +1,35 @@
+-- What is proved of this layer, beside the demand that it meets.
+use Prim.Native.Nat.{ℕ, _^_, _<_}
+use mathlib.Core.Path.{_≡_}
+use mathlib.Core.List.{List, _++_}
+use Rattle.fields.specs.BigEndian.{Bytes}
+use Rattle.fields.specs.Answer.{accepted}
+use Rattle.fields.specs.Staged.{run}
+use Rattle.fields.specs.Demand3.{Demand3}
+use Rattle.header.specs.declared.PduHeader.{PduHeader}
+use Rattle.header.specs.declared.HeaderResult.{HeaderResult}
+use Rattle.header.specs.declared.LengthResult.{LengthResult}
+use Rattle.header.specs.Header.{headerBytes}
+use Rattle.header.specs.Answers.{headerAnswer, lengthAnswer}
+use Rattle.header.specs.Judging.{building}
+use Rattle.header.specs.Reading.{readingHeader}
+use Rattle.header.specs.Writing.{writingHeader}
+
+-- DEMAND 2: what is written, followed by anything, reads back as the same header
+abbrev pub HeaderReadsBack : Type 0
+HeaderReadsBack = (h : PduHeader) (room written : ℕ) (t : List ℕ) → h .length < 2 ^ 16 → writingHeader h room ≡ accepted written → run readingHeader (headerBytes h ++ t) ≡ accepted h
+
+-- DEMAND 2: a header that was read from bytes passes the judgement of a record
+abbrev pub ReadIsSound : Type 0
+ReadIsSound = (s : List ℕ) (h : PduHeader) → Bytes s → run readingHeader s ≡ accepted h → building h ≡ accepted h
+
+-- DEMAND 3: at most two refusals as short
+abbrev pub HeaderDemand3 : Type 0
+HeaderDemand3 = Demand3 (run readingHeader) 2
+
+-- 'How much each promise says': the answers leave one value
+abbrev pub OneHeaderResult : Type 0
+OneHeaderResult = (a b : HeaderResult) → headerAnswer a ≡ headerAnswer b → a ≡ b
+
+abbrev pub OneLengthResult : Type 0
+OneLengthResult = (a b : LengthResult) → lengthAnswer a ≡ lengthAnswer b → a ≡ b

@@ -1,0 +1,97 @@
+// Layer 2 of the codec: the common PDU header (the Rust's `cfdp/pdu/mod.rs`): its record, read, judged, written, verified and compared.
+ghost use mathlib.Core.Path.{_≡_};
+ghost use Rattle.header.specs.Header.{headerLength, pduLength, withDirection, withFileFlag, withLength};
+use fields::EntityId;
+use fields::Refusal;
+use fields::TransactionSeqNum;
+
+pub mod compare;
+pub mod flags;
+pub mod judge;
+pub mod read;
+pub mod verify;
+pub mod write;
+
+pub use flags::CrcFlag;
+pub use flags::Direction;
+pub use flags::LargeFileFlag;
+pub use flags::PduType;
+pub use flags::SegmentMetadataFlag;
+pub use flags::SegmentationControl;
+pub use flags::TransmissionMode;
+
+// The bytes before the identifiers.
+pub const FIXED_HEADER_LEN: usize = 4;
+
+// All fields of a header, in the order of the link. The Rust's names stand beside those that differ.
+pub struct PduHeader {
+    // pdu_type
+    pub kind: PduType,
+    pub direction: Direction,
+    // trans_mode
+    pub mode: TransmissionMode,
+    // crc_flag
+    pub crc: CrcFlag,
+    // file_flag
+    pub file: LargeFileFlag,
+    // pdu_datafield_len
+    pub length: u16,
+    // seg_ctrl
+    pub control: SegmentationControl,
+    // seg_metadata_flag
+    pub metadata: SegmentMetadataFlag,
+    // source_entity_id
+    pub source: EntityId,
+    // transaction_seq_num
+    pub sequence: TransactionSeqNum,
+    // dest_entity_id
+    pub destination: EntityId,
+}
+
+// A header, or why there is none.
+pub enum HeaderResult {
+    Header(PduHeader),
+    Refused(Refusal),
+}
+
+// A length in bytes, or why there is none.
+pub enum LengthResult {
+    Length(usize),
+    Refused(Refusal),
+}
+
+impl PduHeader {
+    // h: the bytes of the header.
+    pub fn header_len(self) -> usize
+        ensures { λ r. ⌜ r ≡ headerLength self ⌝ }
+    {
+        let entity = self.source.0.width as usize;
+        let sequence = self.sequence.0.width as usize;
+        FIXED_HEADER_LEN + 2 * entity + sequence
+    }
+
+    // P: the bytes of the whole PDU.
+    pub fn pdu_len(self) -> usize
+        ensures { λ r. ⌜ r ≡ pduLength self ⌝ }
+    {
+        self.header_len() + (self.length as usize)
+    }
+
+    pub fn with_direction(self, direction: Direction) -> Self
+        ensures { λ r. ⌜ r ≡ withDirection direction self ⌝ }
+    {
+        PduHeader { direction, ..self }
+    }
+
+    pub fn with_file_flag(self, file: LargeFileFlag) -> Self
+        ensures { λ r. ⌜ r ≡ withFileFlag file self ⌝ }
+    {
+        PduHeader { file, ..self }
+    }
+
+    pub fn with_datafield_len(self, length: u16) -> Self
+        ensures { λ r. ⌜ r ≡ withLength length self ⌝ }
+    {
+        PduHeader { length, ..self }
+    }
+}

@@ -1,0 +1,114 @@
+// Reading a header: bytes 0 and 3 are taken apart by shifts and masks, the numbers are big-endian.
+ghost use mathlib.Core.Path.{_≡_};
+ghost use Prim.Native.Nat.{_+_, _/_, _%_, _^_, _≤_, _<_};
+ghost use lib.ListN.{length};
+ghost use Rattle.fields.specs.Staged.{run};
+ghost use Rattle.header.specs.Answers.{headerAnswer};
+ghost use Rattle.header.specs.Reading.{isSet, headerLengthIn, headerIn, readingHeader};
+use crate::CrcFlag;
+use crate::Direction;
+use crate::FIXED_HEADER_LEN;
+use crate::HeaderResult;
+use crate::LargeFileFlag;
+use crate::PduHeader;
+use crate::PduType;
+use crate::SegmentMetadataFlag;
+use crate::SegmentationControl;
+use crate::TransmissionMode;
+use crate::flags::CFDP_VERSION_2;
+use fields::EntityId;
+use fields::Refusal;
+use fields::TransactionSeqNum;
+use fields::UnsignedByteField;
+use fields::be;
+use fields::field;
+
+// Whether bit k is set; bit 0 is the lowest.
+fn bit_at(byte: u8, k: u8) -> bool
+    requires { ⌜ k < 8 ⌝ }
+    ensures { λ r. ⌜ r ≡ isSet byte (2 ^ k) ⌝ }
+{
+    (byte >> k) & 1 == 1
+}
+
+// The three bits from bit k up.
+fn three_at(byte: u8, k: u8) -> u8
+    requires { ⌜ k < 8 ⌝ }
+    ensures { λ r. ⌜ r ≡ byte / 2 ^ k % 8 ⌝ }
+{
+    (byte >> k) & 7
+}
+
+// A width, which is stored less one.
+fn width_at(byte: u8, k: u8) -> u8
+    requires { ⌜ k < 8 ⌝ }
+    ensures { λ r. ⌜ (r ≡ byte / 2 ^ k % 8 + 1) × (r ≤ 8) ⌝ }
+{
+    three_at(byte, k) + 1
+}
+
+// The header that stands in its bytes.
+fn header_in(s: &[u8]) -> PduHeader
+    requires { ⌜ headerLengthIn (now s) ≤ length (now s) ⌝ }
+    ensures { λ r. ⌜ r ≡ headerIn (now (s .entry)) ⌝ }
+{
+    let first = s[0];
+    let fourth = s[3];
+    let entity = width_at(fourth, 4);
+    let sequence = width_at(fourth, 0);
+    let e = entity as usize;
+    let q = sequence as usize;
+    let length = be::read_be(s, 1, 2) as u16;
+    let source_id = be::read_be(s, 4, e);
+    let number = be::read_be(s, 4 + e, q);
+    let destination_id = be::read_be(s, 4 + e + q, e);
+    PduHeader {
+        kind: PduType::from_bit(bit_at(first, 4)),
+        direction: Direction::from_bit(bit_at(first, 3)),
+        mode: TransmissionMode::from_bit(bit_at(first, 2)),
+        crc: CrcFlag::from_bit(bit_at(first, 1)),
+        file: LargeFileFlag::from_bit(bit_at(first, 0)),
+        length,
+        control: SegmentationControl::from_bit(bit_at(fourth, 7)),
+        metadata: SegmentMetadataFlag::from_bit(bit_at(fourth, 3)),
+        source: EntityId(UnsignedByteField::new(entity, source_id)),
+        sequence: TransactionSeqNum(UnsignedByteField::new(sequence, number)),
+        destination: EntityId(UnsignedByteField::new(entity, destination_id)),
+    }
+}
+
+fn short(found: usize, expected: usize) -> HeaderResult
+    ensures { λ r. ⌜ r ≡ HeaderResult.Refused (Refusal.FromSliceTooSmall found expected) ⌝ }
+{
+    HeaderResult::Refused(Refusal::FromSliceTooSmall { found, expected })
+}
+
+impl PduHeader {
+    // Only the header is asked for: the rest of the PDU may be missing, and its checksum is not looked at.
+    pub fn from_bytes(buf: &[u8]) -> HeaderResult
+        ensures { λ r. ⌜ headerAnswer r ≡ run readingHeader (now (buf .entry)) ⌝ }
+    {
+        let n = buf.len();
+        if n < FIXED_HEADER_LEN {
+            return short(n, FIXED_HEADER_LEN);
+        }
+        let fixed = &buf[..FIXED_HEADER_LEN];
+        let version = three_at(fixed[0], 5);
+        if version != CFDP_VERSION_2 {
+            return HeaderResult::Refused(Refusal::CfdpVersionMissmatch(version));
+        }
+        let entity = width_at(fixed[3], 4);
+        if !field::is_width(entity) {
+            return HeaderResult::Refused(Refusal::InvalidEntityLen(entity));
+        }
+        let sequence = width_at(fixed[3], 0);
+        if !field::is_width(sequence) {
+            return HeaderResult::Refused(Refusal::InvalidTransactionSeqNumLen(sequence));
+        }
+        let len = FIXED_HEADER_LEN + 2 * (entity as usize) + (sequence as usize);
+        if n < len {
+            return short(n, len);
+        }
+        HeaderResult::Header(header_in(&buf[..len]))
+    }
+}

@@ -1,0 +1,48 @@
+// Verifying the length and the checksum of a PDU by its header.
+ghost use mathlib.Core.Path.{_≡_};
+ghost use Rattle.fields.specs.Staged.{run};
+ghost use Rattle.header.specs.Answers.{lengthAnswer};
+ghost use Rattle.header.specs.Verifying.{verifyingRead, verifying};
+use crate::CrcFlag;
+use crate::HeaderResult;
+use crate::LengthResult;
+use crate::PduHeader;
+use fields::Refusal;
+use fields::be;
+use fields::crc;
+
+impl PduHeader {
+    // E: where the data ends, of a header that was read: its record is not judged again.
+    pub fn verify_read(self, buf: &[u8]) -> LengthResult
+        ensures { λ r. ⌜ lengthAnswer r ≡ run (verifyingRead self) (now (buf .entry)) ⌝ }
+    {
+        let len = self.pdu_len();
+        if buf.len() < len {
+            return LengthResult::Refused(Refusal::FromSliceTooSmall {
+                found: buf.len(),
+                expected: len,
+            });
+        }
+        let flag = self.crc;
+        if let CrcFlag::NoCrc = flag {
+            return LengthResult::Length(len);
+        }
+        let pdu = &buf[..len];
+        let end = len - 2;
+        if crc::checksum(pdu) != 0 {
+            return LengthResult::Refused(Refusal::Checksum(be::read_be(pdu, end, 2) as u16));
+        }
+        LengthResult::Length(end)
+    }
+
+    // The same of any record, which is judged first.
+    pub fn verify_length_and_checksum(self, buf: &[u8]) -> LengthResult
+        ensures { λ r. ⌜ lengthAnswer r ≡ run (verifying self) (now (buf .entry)) ⌝ }
+    {
+        let judged = self.judged();
+        match judged {
+            HeaderResult::Refused(refusal) => LengthResult::Refused(refusal),
+            HeaderResult::Header(_) => self.verify_read(buf),
+        }
+    }
+}

@@ -1,0 +1,127 @@
+// Writing a header: bytes 0 and 3 are packed by shifts and masks, and each field is written behind the one before.
+ghost use mathlib.Core.Path.{_≡_};
+ghost use Prim.Native.Nat.{_+_, _*_, _^_, _≤_, _<_};
+ghost use mathlib.Core.List.{_++_};
+ghost use lib.ListN.{length, drop};
+ghost use Rattle.header.specs.Answers.{lengthAnswer};
+ghost use Rattle.header.specs.Header.{headerLength, firstByte, fourthByte, headerBytes};
+ghost use Rattle.header.specs.Judging.{Sound};
+ghost use Rattle.header.specs.Writing.{writingHeader, headerMemory};
+use crate::FIXED_HEADER_LEN;
+use crate::HeaderResult;
+use crate::LengthResult;
+use crate::PduHeader;
+use crate::flags::CFDP_VERSION_2;
+use fields::Refusal;
+use fields::be;
+
+// `high`, and below it `low` in k bits.
+fn beside(high: u8, k: u8, low: u8) -> u8
+    requires { ⌜ (k < 8) × (high * 2 ^ k < 256) × (low < 2 ^ k) ⌝ }
+    ensures { λ r. ⌜ r ≡ high * 2 ^ k + low ⌝ }
+{
+    (high << k) | low
+}
+
+fn first_byte(h: PduHeader) -> u8
+    ensures { λ r. ⌜ r ≡ firstByte h ⌝ }
+{
+    let kind = h.kind;
+    let direction = h.direction;
+    let mode = h.mode;
+    let crc = h.crc;
+    let file = h.file;
+    let two = beside(crc.bit(), 1, file.bit());
+    let three = beside(mode.bit(), 2, two);
+    let four = beside(direction.bit(), 3, three);
+    let five = beside(kind.bit(), 4, four);
+    beside(CFDP_VERSION_2, 5, five)
+}
+
+fn fourth_byte(h: PduHeader) -> u8
+    requires { ⌜ Sound h ⌝ }
+    ensures { λ r. ⌜ r ≡ fourthByte h ⌝ }
+{
+    let control = h.control;
+    let metadata = h.metadata;
+    let entity = h.source.0.width - 1;
+    let sequence = h.sequence.0.width - 1;
+    let four = beside(metadata.bit(), 3, sequence);
+    let seven = beside(entity, 4, four);
+    beside(control.bit(), 7, seven)
+}
+
+// The header's bytes, at the front of the buffer.
+fn put_header(h: PduHeader, buf: &mut [u8])
+    requires { ⌜ Sound h × (headerLength h ≤ length (now buf)) ⌝ }
+    ensures { λ _. ⌜ now (buf .exit) ≡ headerBytes h ++ drop (headerLength h) (now (buf .entry)) ⌝ }
+{
+    let entity = h.source.0.width as usize;
+    let sequence = h.sequence.0.width as usize;
+    let source_id = h.source.0.value;
+    let number = h.sequence.0.value;
+    let destination_id = h.destination.0.value;
+    let length = h.length as u64;
+    let first = first_byte(h) as u64;
+    let fourth = fourth_byte(h) as u64;
+    let second = FIXED_HEADER_LEN + entity;
+    let third = second + sequence;
+    be::write_be(buf, 0, 1, first);
+    be::write_be(buf, 1, 2, length);
+    be::write_be(buf, 3, 1, fourth);
+    be::write_be(buf, 4, entity, source_id);
+    be::write_be(buf, second, sequence, number);
+    be::write_be(buf, third, entity, destination_id);
+}
+
+fn no_room(found: usize, expected: usize) -> LengthResult
+    ensures { λ r. ⌜ r ≡ LengthResult.Refused (Refusal.ToSliceTooSmall found expected) ⌝ }
+{
+    LengthResult::Refused(Refusal::ToSliceTooSmall { found, expected })
+}
+
+fn wide(width: u8) -> usize
+    ensures { λ r. ⌜ (r ≡ width) × (r < 256) ⌝ }
+{
+    width as usize
+}
+
+// The written length, or why a header cannot be written into so many bytes.
+fn writable(h: PduHeader, room: usize) -> LengthResult
+    ensures { λ r. ⌜ lengthAnswer r ≡ writingHeader h room ⌝ }
+{
+    let judged = h.judged();
+    match judged {
+        HeaderResult::Refused(refusal) => LengthResult::Refused(refusal),
+        HeaderResult::Header(_) => {
+            let entity = wide(h.source.0.width);
+            let sequence = wide(h.sequence.0.width);
+            // The Rust asks for room without the destination, and then names the fixed bytes alone.
+            if room < FIXED_HEADER_LEN + entity + sequence {
+                return no_room(room, FIXED_HEADER_LEN);
+            }
+            let len = h.header_len();
+            if room < len {
+                return no_room(room, len);
+            }
+            LengthResult::Length(len)
+        }
+    }
+}
+
+impl PduHeader {
+    // The written length. A refused write changes no byte, an accepted one changes the header's bytes and no others.
+    pub fn write_to_slice(self, buf: &mut [u8]) -> LengthResult
+        ensures answered { λ r. ⌜ lengthAnswer r ≡ writingHeader self (length (now (buf .entry))) ⌝ }
+        ensures stored { λ _. ⌜ now (buf .exit) ≡ headerMemory self (now (buf .entry)) ⌝ }
+    {
+        let answer = writable(self, buf.len());
+        match answer {
+            LengthResult::Refused(refusal) => LengthResult::Refused(refusal),
+            LengthResult::Length(len) => {
+                put_header(self, buf);
+                LengthResult::Length(len)
+            }
+        }
+    }
+}
