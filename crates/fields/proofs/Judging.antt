@@ -1,7 +1,7 @@
 -- Laws of judgements: what is accepted passed every test, and a refusal is handed on as it is.
 -- Assumes nothing.
 use Prim.Native.Nat.{ℕ}
-use mathlib.Core.Path.{_≡_, refl, ap}
+use mathlib.Core.Path.{_≡_, refl, ap, ap₂}
 use mathlib.Core.Bool.{Bool, true, false}
 use mathlib.Core.List.{List, [], _∷_, _++_}
 use native.Mathlib.Omega.{arith}
@@ -63,6 +63,18 @@ module _ {A B : Type 0} (ns : List ℕ) where
       go true d = let z : _≡_ {A = ℕ} 0 1 = cc in absurd (omega arith)
       go false d = let h : ns ≡ ms = cc in ap refused h
 
+  pub told-short : (l n : ℕ) → _≡_ {A = Answer A} (told ns) (short l n) → _≡_ {A = Answer B} (told ns) (short l n)
+  unfolding told
+  told-short l n e = go (eqb (getD ns 0 0) 1) e
+    where
+      go : (c : Bool) → _≡_ {A = Answer A} (if c then short (getD ns 1 0) (getD ns 2 0) else refused ns) (short l n)
+          → _≡_ {A = Answer B} (if c then short (getD ns 1 0) (getD ns 2 0) else refused ns) (short l n)
+      go true d =
+          let p : getD ns 1 0 ≡ l = cc in
+          let q : getD ns 2 0 ≡ n = cc in
+          ap₂ short p q
+      go false d = let z : _≡_ {A = ℕ} 0 1 = cc in absurd (omega arith)
+
   -- where the tests of a part refuse, those of the whole do so alike
   pub refused-on : (ts us : List Test) (a : A) (b : B) → told ns ≡ firstOf ts a → told ns ≡ firstOf (ts ++ us) b
   refused-on [] us a b e = absurd (told-no ns a e)
@@ -90,3 +102,12 @@ told-leaves {A} ns o bytes s e = go (eqb (getD ns 0 0) 1) e
     go : (c : Bool) → _≡_ {A = Answer A} (if c then short (getD ns 1 0) (getD ns 2 0) else refused ns) o → s ≡ leaves o bytes s
     go true d = ap (λ (a : Answer A). leaves a bytes s) d
     go false d = ap (λ (a : Answer A). leaves a bytes s) d
+
+-- what is the same of every refusal
+pub told-either : {A X : Type 0} (f : Answer A → X) (x : X) (ns : List ℕ) → ((l n : ℕ) → f (short l n) ≡ x) → ((ms : List ℕ) → f (refused ms) ≡ x) → f (told ns) ≡ x
+unfolding told
+told-either {A} {X} f x ns p q = go (eqb (getD ns 0 0) 1)
+  where
+    go : (c : Bool) → f (if c then short (getD ns 1 0) (getD ns 2 0) else refused ns) ≡ x
+    go true = p (getD ns 1 0) (getD ns 2 0)
+    go false = q ns

@@ -15,7 +15,7 @@ use borrow.Author.Tests.{ltb-true, ltb-false, lt-ltb, le-ltb}
 use Rattle.fields.specs.Choice.{if_then_else_}
 use Rattle.fields.specs.Answer.{Answer, accepted, short, refused, told, andThen, Test, firstOf}
 use Rattle.fields.specs.Staged.{Staged, accept, refuseIf, need, run, _>>=_, _>>_, tests}
-use Rattle.fields.proofs.Judging.{Passed, told-no, told-as}
+use Rattle.fields.proofs.Judging.{Passed, told-no, told-as, told-short}
 use Rattle.fields.specs.Demand3.{Final, firsts, wait, heard, Demand3, AtMost}
 
 pub run-bind : {A B : Type 0} (r : Staged A) (f : A → Staged B) (s : List ℕ) → run (r >>= f) s ≡ andThen (run r s) (λ a. run (f a) s)
@@ -27,6 +27,18 @@ run-bind (need n next) f s = go (ltb (length s) n) (run-bind (next (take n s)) f
     go : (c : Bool) → run (next (take n s) >>= f) s ≡ andThen (run (next (take n s)) s) (λ a. run (f a) s) → (if c then short (length s) n else run (next (take n s) >>= f) s) ≡ andThen (if c then short (length s) n else run (next (take n s)) s) (λ a. run (f a) s)
     go true e = refl
     go false e = e
+
+-- a refusal stands before whatever is accepted at the end
+pub told-before : {A B : Type 0} (ns : List ℕ) (r : Staged A) (b : B) (s : List ℕ) → told ns ≡ run (r >> accept b) s → told ns ≡ run r s
+told-before ns (accept a) b s e = absurd (told-no ns b e)
+told-before ns (refuseIf true ms r) b s e = told-as ns ms e
+told-before ns (refuseIf false ms r) b s e = told-before ns r b s e
+told-before ns (need n next) b s e = go (ltb (length s) n) e (λ d. told-before ns (next (take n s)) b s d)
+  where
+    go : (c : Bool) → told ns ≡ (if c then short (length s) n else run (next (take n s) >> accept b) s) → (told ns ≡ run (next (take n s) >> accept b) s → told ns ≡ run (next (take n s)) s)
+        → told ns ≡ (if c then short (length s) n else run (next (take n s)) s)
+    go true d rest = told-short ns (length s) n d
+    go false d rest = rest d
 
 -- tests in front of stages: where one holds, that is the answer; where all are passed, the stages decide
 pub tests-refused : {A B : Type 0} (ns : List ℕ) (ts : List Test) (r : Staged B) (a : A) (s : List ℕ) → told ns ≡ firstOf ts a → told ns ≡ run (tests ts >> r) s
@@ -41,6 +53,20 @@ tests-refused {A} {B} ns (t ∷ ts) r a s e = go (t .holds) e (λ d. tests-refus
 pub tests-passed : {A : Type 0} (ts : List Test) (r : Staged A) (s : List ℕ) → Passed ts → run (tests ts >> r) s ≡ run r s
 tests-passed [] r s p = refl
 tests-passed (t ∷ ts) r s p = rw (p .0) (tests-passed ts r s (p .1))
+
+-- an accepted reading in two parts accepted both
+pub record Both {A B : Type 0} (r : Staged A) (f : A → Staged B) (s : List ℕ) (b : B) : Type 0 where
+  pub mid : A
+  pub first : run r s ≡ accepted mid
+  pub second : run (f mid) s ≡ accepted b
+
+pub both : {A B : Type 0} (r : Staged A) (f : A → Staged B) (s : List ℕ) (b : B) → run (r >>= f) s ≡ accepted b → Both r f s b
+both {A} r f s b e = go (run r s) refl (sym (run-bind r f s) ∙ e)
+  where
+    go : (o : Answer A) → run r s ≡ o → andThen o (λ a. run (f a) s) ≡ accepted b → Both r f s b
+    go (accepted a) p d = record { mid = a; first = p; second = d }
+    go (short l n) p d = let z : _≡_ {A = ℕ} 0 1 = cc in absurd (let x : ⊥ = omega arith in x)
+    go (refused ns) p d = let z : _≡_ {A = ℕ} 0 1 = cc in absurd (let x : ⊥ = omega arith in x)
 
 pub at-most-more : {A : Type 0} (r : Staged A) (j k : ℕ) → AtMost r k → AtMost r (j + k)
 at-most-more (accept a) j k h = tt

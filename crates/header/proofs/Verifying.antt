@@ -12,15 +12,16 @@ use Rattle.fields.specs.BigEndian.{numberAt, beAt}
 use Rattle.fields.specs.Checksum.{checksumOf}
 use Rattle.fields.specs.Answer.{Answer, accepted, told}
 use Rattle.fields.specs.Staged.{run}
+use Rattle.fields.specs.Demand3.{AtMost}
 use Rattle.fields.proofs.BigEndian.{at-number}
 use Rattle.fields.proofs.Judging.{Passed}
-use Rattle.fields.proofs.Staged.{tests-refused, tests-passed}
+use Rattle.fields.proofs.Staged.{passed-all, told-before, tests-refused, tests-passed}
 use Rattle.header.specs.declared.PduHeader.{PduHeader}
 use Rattle.header.specs.declared.flags.CrcFlag.the-variants.{NoCrc, WithCrc}
 use Rattle.header.specs.Flags.{crcBit}
 use Rattle.header.specs.Header.{headerLength, pduLength, dataEnd}
 use Rattle.header.specs.Judging.{recordTests, building}
-use Rattle.header.specs.Verifying.{verifyingRead, verifying}
+use Rattle.header.specs.Verifying.{pduBytes, verifyingRead, verifying}
 
 -- a PDU has at least its fixed bytes
 pub at-least : (h : PduHeader) (p : ℕ) → p ≡ pduLength h → 4 ≤ p
@@ -30,24 +31,24 @@ at-least h p e = omega arith
 -- p is P
 module _ (h : PduHeader) (s : List ℕ) (p : ℕ) (is : p ≡ pduLength h) where
   pub short-p : length s < p → told (1 ∷ length s ∷ p ∷ []) ≡ run (verifyingRead h) s
-  unfolding told verifyingRead
+  unfolding told verifyingRead pduBytes
   short-p l = rw (← is, lt-ltb _ _ l)
 
   module _ (long : p ≤ length s) where
     pub no-checksum : h .crc ≡ NoCrc → accepted p ≡ run (verifyingRead h) s
-    unfolding verifyingRead dataEnd
+    unfolding verifyingRead pduBytes dataEnd
     no-checksum f = rw (← is, le-ltb _ _ long, ap crcBit f) (ap accepted (omega arith))
 
     module _ (flag : h .crc ≡ WithCrc) (c : ℕ) (sum : c ≡ checksumOf (take p s)) where
       pub bad-checksum : (v : ℕ) → (c ≡ 0 → ⊥) → v ≡ beAt (take p s) (p - 2) 2 → told (5 ∷ v ∷ []) ≡ run (verifyingRead h) s
-      unfolding told verifyingRead
+      unfolding told verifyingRead pduBytes
       bad-checksum v n e =
           let k = at-least h p is in
           let r : v ≡ numberAt (take p s) (p - 2) 2 = e ∙ at-number _ _ 2 (omega arith) (omega (arith, length-take-le p s long)) in
           rw (← is, le-ltb _ _ long, ap crcBit flag, ne-eqb _ _ (rw sum at n), r)
 
       pub good-checksum : c ≡ 0 → accepted (p - 2) ≡ run (verifyingRead h) s
-      unfolding verifyingRead dataEnd
+      unfolding verifyingRead pduBytes dataEnd
       good-checksum z = rw (← is, le-ltb _ _ long, ap crcBit flag, eq-eqb _ _ (sym sum ∙ z))
 
 -- of any record: what the judgement refuses is refused, and behind a record that passed the stages decide
@@ -58,3 +59,40 @@ refused-verify h s ns e = tests-refused ns (recordTests h) (verifyingRead h) h s
 pub passed-verify : (h : PduHeader) (s : List ℕ) → Passed (recordTests h) → run (verifying h) s ≡ run (verifyingRead h) s
 unfolding verifying
 passed-verify h s p = tests-passed (recordTests h) (verifyingRead h) s p
+
+-- ---- for the readers above: a PDU that was verified holds its bytes, and a refusal is the same before E is known
+
+pub record Verified (h : PduHeader) (s : List ℕ) (end : ℕ) : Type 0 where
+  pub long : pduLength h ≤ length s
+  pub bytes-are : run (pduBytes h) s ≡ accepted (take (pduLength h) s)
+  pub end-is : end ≡ dataEnd h
+
+pub verified : (h : PduHeader) (s : List ℕ) (end : ℕ) → accepted end ≡ run (verifyingRead h) s → Verified h s end
+unfolding verifyingRead pduBytes
+verified h s end e =
+    let p = passed-all (verifyingRead h) s end (sym e) in
+    record { long = p .0; bytes-are = rw (le-ltb _ _ (p .0), p .1 .0); end-is = sym (p .1 .1) }
+
+pub verified-refused : (h : PduHeader) (s ns : List ℕ) → told ns ≡ run (verifyingRead h) s → told ns ≡ run (pduBytes h) s
+unfolding verifyingRead
+verified-refused h s ns e = told-before ns (pduBytes h) (dataEnd h) s e
+
+-- the data ends within the PDU, which has at least seven bytes of header where the widths are at least one
+pub end-le : (h : PduHeader) → dataEnd h ≤ pduLength h
+unfolding dataEnd
+end-le h = omega arith
+
+pub header-le : (h : PduHeader) → headerLength h ≤ pduLength h
+unfolding pduLength
+header-le h = omega arith
+
+-- a PDU asks for its bytes once, and what it hands on are its first P bytes
+pub pdu-one : (h : PduHeader) → AtMost (pduBytes h) 1
+unfolding pduBytes
+pdu-one h = λ _. tt
+
+pub pdu-is : (h : PduHeader) (s p : List ℕ) → run (pduBytes h) s ≡ accepted p → (pduLength h ≤ length s) × (take (pduLength h) s ≡ p)
+unfolding pduBytes
+pdu-is h s p e =
+    let k = passed-all (pduBytes h) s p e in
+    (k .0, k .1 .1)

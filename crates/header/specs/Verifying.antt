@@ -16,13 +16,17 @@ use Rattle.header.specs.Judging.{recordTests}
 abbrev pub wrongChecksum : PduHeader → List ℕ → Test
 wrongChecksum h p = when (eqb (crcBit (h .crc)) 1 && not (eqb (checksumOf p) 0)) (5 ∷ numberAt p (pduLength h - 2) 2 ∷ [])
 
--- of a header that was read: 'length below P (1, needs P); 5'; else E
-unfoldable pub verifyingRead : PduHeader → Staged ℕ
-verifyingRead h = do
+-- the bytes of the PDU: 'length below P (1, needs P); 5'
+unfoldable pub pduBytes : PduHeader → Staged (List ℕ)
+pduBytes h = do
   p ← bytes (pduLength h)
   test (wrongChecksum h p)
-  accept (dataEnd h)
+  accept p
 
--- of any record: 13, 3, 4, 14, then those
+-- of a header that was read: those, else E
+unfoldable pub verifyingRead : PduHeader → Staged ℕ
+verifyingRead h = pduBytes h >> accept (dataEnd h)
+
+-- of any record: 13, 3, 4, 14, then those, else E
 unfoldable pub verifying : PduHeader → Staged ℕ
 verifying h = tests (recordTests h) >> verifyingRead h

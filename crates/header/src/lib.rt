@@ -1,5 +1,6 @@
 // Layer 2 of the codec: the common PDU header (the Rust's `cfdp/pdu/mod.rs`): its record, read, judged, written, verified and compared.
 ghost use mathlib.Core.Path.{_≡_};
+ghost use Prim.Native.Nat.{_≤_};
 ghost use Rattle.header.specs.Header.{headerLength, pduLength, withDirection, withFileFlag, withLength};
 use fields::EntityId;
 use fields::Refusal;
@@ -61,18 +62,18 @@ pub enum LengthResult {
 }
 
 impl PduHeader {
-    // h: the bytes of the header.
+    // h: the bytes of the header, at most 4 + 3 * 255.
     pub fn header_len(self) -> usize
-        ensures { λ r. ⌜ r ≡ headerLength self ⌝ }
+        ensures { λ r. ⌜ (r ≡ headerLength self) × (4 ≤ r) × (r ≤ 769) ⌝ }
     {
         let entity = self.source.0.width as usize;
         let sequence = self.sequence.0.width as usize;
         FIXED_HEADER_LEN + 2 * entity + sequence
     }
 
-    // P: the bytes of the whole PDU.
+    // P: the bytes of the whole PDU, at most 65,535 more.
     pub fn pdu_len(self) -> usize
-        ensures { λ r. ⌜ r ≡ pduLength self ⌝ }
+        ensures { λ r. ⌜ (r ≡ pduLength self) × (r ≤ 66304) ⌝ }
     {
         self.header_len() + (self.length as usize)
     }

@@ -23,7 +23,7 @@ add-result-2 c = search needs
 
 returns : tie.Need-returns
 unfolding headerLength
-returns c = refl
+returns c = (refl, search needs, search needs)
 
 pub header-len-spec : {M : Type 1} → statement M
 header-len-spec =

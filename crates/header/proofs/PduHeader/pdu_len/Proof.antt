@@ -20,7 +20,7 @@ add-result c = search needs
 
 returns : tie.Need-returns
 unfolding pduLength
-returns c = ap (λ (n : ℕ). n + c .before .before .args .self .length) (c .before .header-len .ensures)
+returns c = (ap (λ (n : ℕ). n + c .before .before .args .self .length) (c .before .header-len .ensures .0), search needs)
 
 pub pdu-len-spec : {M : Type 1} → statement M
 pdu-len-spec = tie.close (tie.spec header-len-requires cast-result add-result returns)

@@ -12,13 +12,13 @@ pdu-len-requires : tie.Need-pdu-len-requires
 pdu-len-requires c κs = search needs
 
 returns : tie.Need-returns
-returns c = short-p _ _ _ (c .before .pdu-len .ensures) (c .if1 .taken)
+returns c = short-p _ _ _ (c .before .pdu-len .ensures .0) (c .if1 .taken)
 
 enum-told : tie.Need-enum-told
 enum-told c = search needs
 
 returns-2 : tie.Need-returns-2
-returns-2 c = no-checksum _ _ _ (c .before .before .before .pdu-len .ensures) (c .before .before .if1 .left) (c .enum-told .given .1)
+returns-2 c = no-checksum _ _ _ (c .before .before .before .pdu-len .ensures .0) (c .before .before .if1 .left) (c .enum-told .given .1)
 
 enum-told-2 : tie.Need-enum-told-2
 enum-told-2 c = search needs
@@ -27,7 +27,7 @@ slice-aggregate-pdu : tie.Need-slice-aggregate-pdu
 slice-aggregate-pdu c = sym (length-take-le (c .before .before .before .before .pdu-len .result) (c .before .before .before .before .before .before .args .buf .now) (omega arith))
 
 sub-end : tie.Need-sub-end
-sub-end c = omega (arith, at-least _ _ (c .before .before .before .before .pdu-len .ensures))
+sub-end c = omega (arith, at-least _ _ (c .before .before .before .before .pdu-len .ensures .0))
 
 checksum-requires : tie.Need-checksum-requires
 checksum-requires c κs = search needs
@@ -40,11 +40,11 @@ cast-t14 c = search needs
 
 returns-3 : tie.Need-returns-3
 returns-3 c =
-    bad-checksum _ _ _ (c .before .before .before .before .before .before .before .pdu-len .ensures) (c .before .before .before .before .before .before .if1 .left) (c .before .before .before .before .enum-told2 .given .1) _ (c .before .before .checksum .ensures) _ (c .before .if2 .taken) (c .read-be .ensures .0)
+    bad-checksum _ _ _ (c .before .before .before .before .before .before .before .pdu-len .ensures .0) (c .before .before .before .before .before .before .if1 .left) (c .before .before .before .before .enum-told2 .given .1) _ (c .before .before .checksum .ensures) _ (c .before .if2 .taken) (c .read-be .ensures .0)
 
 returns-4 : tie.Need-returns-4
 returns-4 c =
-    good-checksum _ _ _ (c .before .before .before .before .before .before .pdu-len .ensures) (c .before .before .before .before .before .if1 .left) (c .before .before .before .enum-told2 .given .1) _ (c .before .checksum .ensures) (c .if2 .left)
+    good-checksum _ _ _ (c .before .before .before .before .before .before .pdu-len .ensures .0) (c .before .before .before .before .before .if1 .left) (c .before .before .before .enum-told2 .given .1) _ (c .before .checksum .ensures) (c .if2 .left)
 
 pub verify-read-spec : {M : Type 1} → statement M
 verify-read-spec =

@@ -48,7 +48,7 @@ no-room-requires-2 c κs = search needs
 
 returns-2 : tie.Need-returns-2
 returns-2 c =
-    ap lengthAnswer (c .no-room2 .ensures) ∙ ap (λ (n : ℕ). told (11 ∷ c .before .before .before .before .before .before .before .before .before .args .room ∷ n ∷ [])) (c .before .before .header-len .ensures)
+    ap lengthAnswer (c .no-room2 .ensures) ∙ ap (λ (n : ℕ). told (11 ∷ c .before .before .before .before .before .before .before .before .before .args .room ∷ n ∷ [])) (c .before .before .header-len .ensures .0)
     ∙ short-of-h _ (passed-tests _ _ (ap headerAnswer (sym (c .before .before .before .before .before .before .enum-told .given .1)) ∙ c .before .before .before .before .before .before .before .before .judged .ensures)) _ (omega arith) (omega arith)
 
 returns-3 : tie.Need-returns-3
@@ -56,7 +56,7 @@ returns-3 c = refused-record _ _ _ (ap headerAnswer (sym (c .before .judged2 .gi
 
 returns-4 : tie.Need-returns-4
 returns-4 c =
-    ap accepted (c .before .header-len .ensures) ∙ enough _ (passed-tests _ _ (ap headerAnswer (sym (c .before .before .before .before .before .enum-told .given .1)) ∙ c .before .before .before .before .before .before .before .judged .ensures)) _ (omega arith) (omega arith)
+    ap accepted (c .before .header-len .ensures .0) ∙ enough _ (passed-tests _ _ (ap headerAnswer (sym (c .before .before .before .before .before .enum-told .given .1)) ∙ c .before .before .before .before .before .before .before .judged .ensures)) _ (omega arith) (omega arith)
 
 pub writable-spec : {M : Type 1} → statement M
 writable-spec =

@@ -1,0 +1,2 @@
+-- The definition that the promise cites.
+pub mod Listing

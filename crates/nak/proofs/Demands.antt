@@ -1,0 +1,99 @@
+-- The statements of specs/Demands on readings, proved.
+-- Assumes nothing.
+use Prim.Native.Nat.{ℕ, _+_, _-_, _*_, _/_, _≤_, _<_}
+use mathlib.Core.Path.{_≡_, refl, sym, ap, subst, _∙_}
+use mathlib.Core.List.{List, [], _∷_, _++_}
+use native.Mathlib.Omega.{arith}
+use lib.ListN.{length, take, drop, length-take, length-drop}
+use borrow.Author.Tests.{ltb-false, le-leb}
+use Rattle.fields.specs.Answer.{Answer, accepted, short, told}
+use Rattle.fields.specs.Staged.{run}
+use Rattle.fields.specs.Demand3.{Final, AtMost}
+use Rattle.fields.specs.declared.refusal.Refusal.the-variants.{FromSliceTooSmall}
+use Rattle.fields.proofs.Staged.{at-most-bind, demand3, passed-all, both}
+use Rattle.fields.proofs.OneToOne.{answerBack, told-back, one-to-one}
+use Rattle.header.specs.declared.PduHeader.{PduHeader}
+use Rattle.header.specs.Header.{headerLength, pduLength, dataEnd}
+use Rattle.header.specs.Reading.{readingHeader}
+use Rattle.header.specs.Verifying.{pduBytes}
+use Rattle.header.proofs.Demands.{header-two}
+use Rattle.header.proofs.Verifying.{end-le, pdu-one, pdu-is}
+use Rattle.nak.specs.declared.Nak.{Nak}
+use Rattle.nak.specs.declared.NakResult.{NakResult}
+use Rattle.nak.specs.declared.NakResult.the-variants.{Nak as Read, Refused}
+use Rattle.nak.specs.Nak.{pairSize, areaStart, nakIn}
+use Rattle.nak.specs.Reading.{nakAnswer, readingScope, readingDirective, readingData, readingNak}
+use Rattle.nak.specs.Requests.{areaOf, pairsOf}
+use Rattle.nak.specs.Demands.{Shows, AcceptedShows, OneNakResult, NakDemand3, Readings, CodeDemand3}
+use Rattle.nak.proofs.Walking.{within, pairs-count}
+
+-- ---- one answer
+
+nak-back : (r : NakResult) → answerBack Read Refused (nakAnswer r) ≡ r
+nak-back (Read n) = refl
+nak-back (Refused r) = told-back Read Refused r
+
+pub one-nak-result : OneNakResult
+one-nak-result = one-to-one nakAnswer (answerBack Read Refused) nak-back
+
+-- ---- demand 3
+
+directive-one : (h : PduHeader) (p : List ℕ) → AtMost (readingDirective h p) 1
+unfolding readingDirective readingScope
+directive-one h p = λ _. tt
+
+data-two : (h : PduHeader) → AtMost (readingData h) 2
+unfolding readingData
+data-two h = at-most-bind (pduBytes h) (readingDirective h) 1 1 (pdu-one h) (directive-one h)
+
+nak-four : AtMost readingNak 4
+unfolding readingNak
+nak-four = at-most-bind readingHeader readingData 2 2 header-two data-two
+
+pub nak-demand3 : NakDemand3
+nak-demand3 = demand3 (run readingNak) 4 readingNak nak-four (λ s. refl)
+
+-- the same of two readings: their answers are the definition's, and an answer leaves one result
+short-answer : (r : NakResult) (l n : ℕ) → r ≡ Refused (FromSliceTooSmall l n) → nakAnswer r ≡ short l n
+unfolding told
+short-answer r l n e = ap nakAnswer e
+
+pub code-demand3 : CodeDemand3
+unfolding told
+code-demand3 =
+    record {
+      final = λ s t r q k f.
+          one-nak-result q r (k .longer ∙ nak-demand3 .final s t (subst Final (k .first) f) ∙ sym (k .first));
+      waits = λ s t r q l n k e h.
+          one-nak-result q _ (k .longer ∙ nak-demand3 .waits s t l n (sym (k .first) ∙ short-answer r l n e) h);
+      enough = λ s t r q l m n k e h d.
+          nak-demand3 .enough s t l m n (sym (k .first) ∙ short-answer r l n e) h (sym (k .longer) ∙ short-answer q m n d);
+    }
+
+-- ---- demand 2: what an accepted NAK shows
+
+-- in its PDU an accepted NAK is the one that stands there, behind a scope that ends within the data
+directive-read : (h : PduHeader) (p s : List ℕ) (n : Nak) → run (readingDirective h p) s ≡ accepted n → (areaStart h ≤ dataEnd h) × (nakIn h p ≡ n)
+unfolding readingDirective readingScope
+directive-read h p s n e =
+    let k = passed-all (readingDirective h p) s n e in
+    (ltb-false _ _ (k .1 .1 .1 .1 .1 .0), k .1 .1 .1 .1 .1 .1)
+
+-- what the NAK in a PDU shows of any bytes that hold the data
+in-bytes : (h : PduHeader) (p s : List ℕ) → areaStart h ≤ dataEnd h → dataEnd h ≤ length s → Shows s (nakIn h p)
+unfolding nakIn
+in-bytes h p s l m =
+    let n = nakIn h p in
+    let a : areaOf n s ≡ take (dataEnd h - areaStart h) (drop (areaStart h) s) = sym (within n s l m) in
+    let k : length (areaOf n s) ≡ dataEnd h - areaStart h = ap length a ∙ simp (length-take, length-drop) (omega arith) in
+    record { area = a; inside = m; count = pairs-count (h .file) (areaOf n s) ∙ ap (λ (j : ℕ). j / pairSize (h .file)) k }
+
+pub accepted-shows : AcceptedShows
+unfolding readingNak readingData
+accepted-shows s n e =
+    let b = both readingHeader readingData s n e in
+    let h = b .mid in
+    let d = both (pduBytes h) (readingDirective h) s n (b .second) in
+    let p = pdu-is h s (d .mid) (d .first) in
+    let k = directive-read h (d .mid) s n (d .second) in
+    subst (Shows s) (k .1) (in-bytes h (d .mid) s (k .0) (omega (arith, end-le h, p .0)))

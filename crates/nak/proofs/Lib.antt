@@ -1,0 +1,6 @@
+-- Laws of the definitions. The proof of a function stands in the folder of its name.
+pub mod Codes
+pub mod Reading
+pub mod Walking
+pub mod Cases
+pub mod Demands

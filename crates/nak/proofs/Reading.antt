@@ -1,0 +1,104 @@
+-- Reading a NAK: its answer at each exit, and a NAK made of its parts.
+-- Assumes nothing.
+use Prim.Native.Nat.{ℕ, _+_, _-_, _*_, _/_, _≤_, _<_}
+use mathlib.Core.Path.{_≡_, refl, sym, ap, _∙_}
+use mathlib.Core.Bool.{Bool, true, false}
+use mathlib.Core.List.{List, [], _∷_}
+use native.Mathlib.Omega.{arith}
+use lib.Dec.{eqb}
+use lib.ListN.{length, getD, take}
+use borrow.Author.Tests.{lt-ltb, le-ltb}
+use Rattle.fields.specs.BigEndian.{numberAt, beAt}
+use Rattle.fields.specs.Answer.{Answer, accepted, told, andThen}
+use Rattle.fields.specs.Staged.{run}
+use Rattle.fields.proofs.BigEndian.{at-number}
+use Rattle.fields.proofs.Judging.{told-on}
+use Rattle.fields.proofs.Staged.{run-bind}
+use Rattle.header.specs.declared.PduHeader.{PduHeader}
+use Rattle.header.specs.Header.{headerLength, pduLength, dataEnd}
+use Rattle.header.specs.Reading.{readingHeader}
+use Rattle.header.specs.Verifying.{pduBytes, verifyingRead}
+use Rattle.header.proofs.Verifying.{verified-refused, Verified}
+use Rattle.nak.specs.declared.Nak.{Nak}
+use Rattle.nak.specs.Directive.{isKnown}
+use Rattle.nak.specs.Nak.{offsetWidth, areaStart, nakIn}
+use Rattle.nak.specs.Reading.{readingScope, readingDirective, readingData, readingNak}
+
+-- ---- where the requests start, and a NAK made of its parts
+
+pub area-is : (h : PduHeader) (a w : ℕ) → a ≡ headerLength h → w ≡ offsetWidth (h .file) → a + 1 + 2 * w ≡ areaStart h
+unfolding areaStart
+area-is h a w p q = rw (p, q)
+
+pub nak-is : (h : PduHeader) (p : List ℕ) (a w e x y : ℕ) → a ≡ headerLength h → w ≡ offsetWidth (h .file) → w ≤ 8 → e ≡ dataEnd h → areaStart h ≤ dataEnd h → dataEnd h ≤ length p
+    → x ≡ beAt p (a + 1) w → y ≡ beAt p (a + 1 + w) w
+    → record { header = h; start = x; end = y; area = a + 1 + 2 * w; stop = e; count = (e - (a + 1 + 2 * w)) / (2 * w) } ≡ nakIn h p
+unfolding nakIn areaStart
+nak-is h p a w e x y pa pw small pe room long px py =
+    let l : a + 1 + 2 * w ≤ length p = omega (arith, area-is h a w pa pw) in
+    let px′ : x ≡ numberAt p (a + 1) w = px ∙ at-number p (a + 1) w small (omega arith) in
+    let py′ : y ≡ numberAt p (a + 1 + w) w = py ∙ at-number p (a + 1 + w) w small (omega arith) in
+    rw (px′, py′, pe, pa, pw)
+
+-- ---- the last test
+
+module _ (h : PduHeader) (p s : List ℕ) (e b : ℕ) (pe : e ≡ dataEnd h) (pb : b ≡ areaStart h) where
+  pub scope-short : e < b → told (6 ∷ e ∷ b ∷ []) ≡ run (readingScope h p) s
+  unfolding told readingScope
+  scope-short l = rw (← pe, ← pb, lt-ltb _ _ l)
+
+  pub scope-whole : b ≤ e → accepted (nakIn h p) ≡ run (readingScope h p) s
+  unfolding readingScope
+  scope-whole l = rw (← pe, ← pb, le-ltb _ _ l)
+
+-- ---- the directive
+
+module _ (h : PduHeader) (p s : List ℕ) where
+  pub short-9 : length s < 9 → told (1 ∷ length s ∷ 9 ∷ []) ≡ run (readingDirective h p) s
+  unfolding told readingDirective
+  short-9 l = rw (lt-ltb _ _ l)
+
+  module _ (long : 9 ≤ length s) (e : ℕ) (pe : e ≡ dataEnd h) where
+    pub end-9 : e < 9 → told (6 ∷ e ∷ 9 ∷ []) ≡ run (readingDirective h p) s
+    unfolding told readingDirective
+    end-9 l = rw (← pe, le-ltb _ _ long, lt-ltb _ _ l)
+
+    module _ (e9 : 9 ≤ e) (a : ℕ) (pa : a ≡ headerLength h) where
+      pub end-code : e < a + 1 → told (6 ∷ e ∷ (a + 1) ∷ []) ≡ run (readingDirective h p) s
+      unfolding told readingDirective
+      end-code l = rw (← pe, ← pa, le-ltb _ _ long, le-ltb _ _ e9, lt-ltb _ _ l)
+
+      module _ (e1 : a + 1 ≤ e) (c : ℕ) (pc : c ≡ getD p a 0) where
+        pub unknown-code : isKnown c ≡ false → told (7 ∷ c ∷ []) ≡ run (readingDirective h p) s
+        unfolding told readingDirective
+        unknown-code k = rw (← pe, ← pa, ← pc, le-ltb _ _ long, le-ltb _ _ e9, le-ltb _ _ e1, k)
+
+        module _ (k : isKnown c ≡ true) where
+          pub other-code : eqb c 8 ≡ false → told (8 ∷ c ∷ []) ≡ run (readingDirective h p) s
+          unfolding told readingDirective
+          other-code n = rw (← pe, ← pa, ← pc, le-ltb _ _ long, le-ltb _ _ e9, le-ltb _ _ e1, k, n)
+
+          pub nak-code : (t : List ℕ) → eqb c 8 ≡ true → run (readingScope h p) t ≡ run (readingDirective h p) s
+          unfolding readingDirective readingScope
+          nak-code t n = rw (← pe, ← pa, ← pc, le-ltb _ _ long, le-ltb _ _ e9, le-ltb _ _ e1, k, n)
+
+-- ---- what the layer below refuses is refused, and behind what it accepts the next stages decide
+
+pub refused-data : (h : PduHeader) (s ns : List ℕ) → told ns ≡ run (verifyingRead h) s → told ns ≡ run (readingData h) s
+unfolding readingData
+refused-data h s ns e =
+    sym (run-bind (pduBytes h) (readingDirective h) s ∙ ap (λ o. andThen o (λ p. run (readingDirective h p) s)) (sym (verified-refused h s ns e)) ∙ told-on ns (λ p. run (readingDirective h p) s))
+
+pub verified-data : (h : PduHeader) (s : List ℕ) (end : ℕ) → Verified h s end → run (readingDirective h (take (pduLength h) s)) s ≡ run (readingData h) s
+unfolding readingData
+verified-data h s end v =
+    sym (run-bind (pduBytes h) (readingDirective h) s ∙ ap (λ o. andThen o (λ p. run (readingDirective h p) s)) (v .bytes-are))
+
+pub refused-header : (s ns : List ℕ) → told ns ≡ run readingHeader s → told ns ≡ run readingNak s
+unfolding readingNak
+refused-header s ns e =
+    sym (run-bind readingHeader readingData s ∙ ap (λ o. andThen o (λ h. run (readingData h) s)) (sym e) ∙ told-on ns (λ h. run (readingData h) s))
+
+pub read-header : (h : PduHeader) (s : List ℕ) → accepted h ≡ run readingHeader s → run (readingData h) s ≡ run readingNak s
+unfolding readingNak
+read-header h s e = sym (run-bind readingHeader readingData s ∙ ap (λ o. andThen o (λ h. run (readingData h) s)) (sym e))

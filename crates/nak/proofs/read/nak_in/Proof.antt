@@ -1,0 +1,61 @@
+-- `nak::read::nak_in` meets its contract: each part is what the definition says.
+-- Assumes nothing.
+use native.Mathlib.Omega.{arith}
+use Rattle.nak.proofs.Reading.{area-is, nak-is}
+use borrow.Author.Needs.{needs}
+use Rattle.nak.proofs.read.nak_in.Statement.{statement}
+use Rattle.nak.proofs.read.nak_in.Tie as tie
+
+offset-width-requires : tie.Need-offset-width-requires
+offset-width-requires c κs = search needs
+
+header-len-requires : tie.Need-header-len-requires
+header-len-requires c κs = search needs
+
+add-scope : tie.Need-add-scope
+add-scope c = search needs
+
+add-second : tie.Need-add-second
+add-second c = search needs
+
+mul-area : tie.Need-mul-area
+mul-area c = search needs
+
+add-area : tie.Need-add-area
+add-area c = search needs
+
+read-be-requires : tie.Need-read-be-requires
+read-be-requires c κs = search needs
+
+read-be-requires-2 : tie.Need-read-be-requires-2
+read-be-requires-2 c κs = search needs
+
+sub-t11 : tie.Need-sub-t11
+sub-t11 c = omega (arith, area-is _ _ _ (c .before .before .header-len .ensures .0) (c .before .before .before .offset-width .ensures .0))
+
+mul-t12 : tie.Need-mul-t12
+mul-t12 c = search needs
+
+div-t13 : tie.Need-div-t13
+div-t13 c = search needs
+
+returns : tie.Need-returns
+returns c =
+    nak-is _ _ _ _ _ _ _ (c .before .before .header-len .ensures .0) (c .before .before .before .offset-width .ensures .0) (c .before .before .before .offset-width .ensures .2) (c .before .before .before .before .before .pre .0) (c .before .before .before .before .before .pre .1) (c .before .before .before .before .before .pre .2) (c .before .read-be .ensures .0) (c .read-be2 .ensures .0)
+
+pub nak-in-spec : {M : Type 1} → statement M
+nak-in-spec =
+    tie.close
+    (tie.spec
+    offset-width-requires
+    header-len-requires
+    add-scope
+    add-second
+    mul-area
+    add-area
+    read-be-requires
+    read-be-requires-2
+    sub-t11
+    mul-t12
+    div-t13
+    returns)

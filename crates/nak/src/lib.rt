@@ -1,0 +1,41 @@
+// Layer 3 of the codec: the NAK PDU (the Rust's `cfdp/pdu/nak.rs`): read, its requests walked, written, reserved and finished, counted, compared.
+ghost use mathlib.Core.Path.{_≡_};
+ghost use Prim.Native.Nat.{_≤_};
+ghost use Rattle.nak.specs.Nak.{offsetWidth};
+use fields::Refusal;
+use header::LargeFileFlag;
+use header::PduHeader;
+
+pub mod directive;
+pub mod read;
+pub mod requests;
+
+// A NAK that was read: its header, its scope, and where its requests lie in the bytes that it was read from.
+pub struct Nak {
+    pub header: PduHeader,
+    // start_of_scope
+    pub start: u64,
+    // end_of_scope
+    pub end: u64,
+    // The request area: the bytes from `area` up to `stop`, which is E.
+    pub area: usize,
+    pub stop: usize,
+    // num_segment_reqs: the whole pairs of the area.
+    pub count: usize,
+}
+
+// A NAK, or why there is none.
+pub enum NakResult {
+    Nak(Nak),
+    Refused(Refusal),
+}
+
+// The bytes of one offset: half of F.
+fn offset_width(file: LargeFileFlag) -> usize
+    ensures { λ r. ⌜ (r ≡ offsetWidth file) × (4 ≤ r) × (r ≤ 8) ⌝ }
+{
+    match file {
+        LargeFileFlag::Normal => 4,
+        LargeFileFlag::Large => 8,
+    }
+}

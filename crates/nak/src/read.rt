@@ -1,0 +1,112 @@
+// Reading a NAK (the Rust's `NakPduReader`).
+ghost use mathlib.Core.Path.{_≡_};
+ghost use Prim.Native.Nat.{_≤_};
+ghost use lib.ListN.{length, take};
+ghost use Rattle.fields.specs.Staged.{run};
+ghost use Rattle.header.specs.Header.{pduLength, dataEnd};
+ghost use Rattle.nak.specs.Nak.{areaStart, nakIn};
+ghost use Rattle.nak.specs.Reading.{nakAnswer, readingScope, readingDirective, readingData, readingNak};
+use crate::Nak;
+use crate::NakResult;
+use crate::directive::Directive;
+use crate::offset_width;
+use fields::Refusal;
+use fields::be;
+use header::HeaderResult;
+use header::LengthResult;
+use header::PduHeader;
+
+// A directive code and a normal scope: the fewest bytes that the Rust asks for.
+const LEAST_LEN: usize = 9;
+
+fn data_short(end: usize, expected: usize) -> NakResult
+    ensures { λ r. ⌜ r ≡ NakResult.Refused (Refusal.DataFieldTooSmall end expected) ⌝ }
+{
+    NakResult::Refused(Refusal::DataFieldTooSmall { end, expected })
+}
+
+// The NAK in its PDU, whose data ends at `end`, behind the scope.
+fn nak_in(header: PduHeader, pdu: &[u8], end: usize) -> Nak
+    requires { ⌜ (end ≡ dataEnd header) × (areaStart header ≤ dataEnd header) × (dataEnd header ≤ length (now pdu)) ⌝ }
+    ensures { λ r. ⌜ r ≡ nakIn header (now (pdu .entry)) ⌝ }
+{
+    let file = header.file;
+    let width = offset_width(file);
+    let scope = header.header_len() + 1;
+    let second = scope + width;
+    let area = scope + 2 * width;
+    let start_of_scope = be::read_be(pdu, scope, width);
+    let end_of_scope = be::read_be(pdu, second, width);
+    Nak {
+        header,
+        start: start_of_scope,
+        end: end_of_scope,
+        area,
+        stop: end,
+        count: (end - area) / (2 * width),
+    }
+}
+
+// Behind the scope there may be anything; before it the data must not end.
+fn read_scope(header: PduHeader, pdu: &[u8], end: usize) -> NakResult
+    requires { ⌜ (end ≡ dataEnd header) × (dataEnd header ≤ length (now pdu)) ⌝ }
+    ensures { λ r. ⌜ nakAnswer r ≡ run (readingScope header (now (pdu .entry))) (now (pdu .entry)) ⌝ }
+{
+    let file = header.file;
+    let area = header.header_len() + 1 + 2 * offset_width(file);
+    if end < area {
+        return data_short(end, area);
+    }
+    NakResult::Nak(nak_in(header, pdu, end))
+}
+
+// The directive of a PDU that was verified; `end` is where its data ends.
+fn read_directive(header: PduHeader, buf: &[u8], end: usize) -> NakResult
+    requires { ⌜ (end ≡ dataEnd header) × (pduLength header ≤ length (now buf)) ⌝ }
+    ensures { λ r. ⌜ nakAnswer r ≡ run (readingDirective header (take (pduLength header) (now (buf .entry)))) (now (buf .entry)) ⌝ }
+{
+    let pdu = &buf[..header.pdu_len()];
+    if buf.len() < LEAST_LEN {
+        return NakResult::Refused(Refusal::FromSliceTooSmall {
+            found: buf.len(),
+            expected: LEAST_LEN,
+        });
+    }
+    if end < LEAST_LEN {
+        return data_short(end, LEAST_LEN);
+    }
+    let at = header.header_len();
+    if end < at + 1 {
+        return data_short(end, at + 1);
+    }
+    let code = pdu[at];
+    let directive = Directive::from_code(code);
+    match directive {
+        Directive::Unknown => NakResult::Refused(Refusal::InvalidDirectiveType(code)),
+        Directive::Known => NakResult::Refused(Refusal::WrongDirectiveType(code)),
+        Directive::Nak => read_scope(header, pdu, end),
+    }
+}
+
+fn read_data(header: PduHeader, buf: &[u8]) -> NakResult
+    ensures { λ r. ⌜ nakAnswer r ≡ run (readingData header) (now (buf .entry)) ⌝ }
+{
+    let verified = header.verify_read(buf);
+    match verified {
+        LengthResult::Refused(refusal) => NakResult::Refused(refusal),
+        LengthResult::Length(end) => read_directive(header, buf, end),
+    }
+}
+
+impl Nak {
+    // PDU type and segment metadata flag are read and not judged, as in the Rust. What follows the PDU is not looked at.
+    pub fn from_bytes(buf: &[u8]) -> NakResult
+        ensures { λ r. ⌜ nakAnswer r ≡ run readingNak (now (buf .entry)) ⌝ }
+    {
+        let header = PduHeader::from_bytes(buf);
+        match header {
+            HeaderResult::Refused(refusal) => NakResult::Refused(refusal),
+            HeaderResult::Header(header) => read_data(header, buf),
+        }
+    }
+}
