@@ -1,7 +1,7 @@
 -- Laws of big-endian numbers, once over the width: the length, there and back, what one byte more does, and chains of writes.
 -- Assumes nothing.
-use mathlib.Core.Path.{_≡_, refl, sym, ap, _∙_}
-use mathlib.Core.Bool.{Bool, true, false, _&&_}
+use mathlib.Core.Path.{_≡_, refl, sym, ap, ap₂, _∙_}
+use mathlib.Core.Bool.{Bool, true, false, _&&_, and-false}
 use mathlib.Core.List.{List, [], _∷_, _++_, append-assoc}
 use Prim.Native.Nat.{ℕ, zero, suc, _+_, _-_, _*_, _/_, _%_, _^_, _<_, _≤_}
 use native.Mathlib.Nat.{div-add-mod', pow-suc, pow-le-pow-right, div-lt-iff-lt-mul, add-suc, suc-add, add-zero, zero-add, sub-zero, lt-of-not-le, lt-of-lt-of-le}
@@ -11,7 +11,7 @@ use native.Mathlib.Omega.{arith}
 use lib.Arith.{digits-lt, lt-one}
 use lib.Dec.{leb}
 use lib.ListN.{length, take, drop, set, getD, length-append, length-take, length-drop, length-set, take-append-drop}
-use lib.Seq.{drop-cons, append-snoc, take-set-le, drop-set-lt, getD-set-same, take-at, drop-at, take-take, drop-drop, getD-drop}
+use lib.Seq.{drop-cons, append-snoc, take-set-le, drop-set-lt, getD-set-same, take-at, drop-at, take-take, drop-drop, getD-drop, sets, sets-eq}
 use borrow.Author.Tests.{le-leb, lt-leb, leb-true}
 use Rattle.fields.specs.Choice.{if_then_else_}
 use Rattle.fields.specs.Width.{fitsWidth}
@@ -164,6 +164,10 @@ lies n at w e =
           absurd (omega arith)
     ]
 
+lies-not : (n at w : ℕ) → n < at + w → liesIn n at w ≡ false
+unfolding liesIn
+lies-not n at w l = rw (lt-leb (at + w) n l) (and-false (leb w 8))
+
 lies-in : (n at w : ℕ) → w ≤ 8 → at + w ≤ n → liesIn n at w ≡ true
 unfolding liesIn
 lies-in n at w h k = rw (le-leb w 8 h, le-leb (at + w) n k)
@@ -179,6 +183,9 @@ read-some s at w e = rw e
 pub put-nowhere : (s : List ℕ) (at w v : ℕ) → liesIn (length s) at w ≡ false → s ≡ bePut s at w v
 unfolding bePut
 put-nowhere s at w v e = rw e
+
+pub put-beyond : (s : List ℕ) (at w v : ℕ) → length s < at + w → s ≡ bePut s at w v
+put-beyond s at w v l = put-nowhere s at w v (lies-not (length s) at w l)
 
 pub put-nothing : (s : List ℕ) (at w v : ℕ) → liesIn (length s) at w ≡ true → fitsWidth w v ≡ false → s ≡ bePut s at w v
 unfolding bePut
@@ -235,3 +242,24 @@ part-take (x ∷ s) (suc n) (suc at) w h = part-take s n at w (omega arith)
 pub number-take : (s : List ℕ) (n at w : ℕ) → at + w ≤ n → numberAt (take n s) at w ≡ numberAt s at w
 unfolding numberAt
 number-take s n at w h = ap beValue (part-take s n at w h)
+
+-- ---- runs of stores, one behind the other, with no condition on what stands there (`sets` of the library)
+
+-- a number that lies in the slice and fits is such a run
+pub put-sets : (s : List ℕ) (at w v : ℕ) → w ≤ 8 → at + w ≤ length s → v < 256 ^ w → bePut s at w v ≡ sets s at (beBytes w v)
+unfolding overwritten
+put-sets s at w v h k f =
+    let l : at + length (beBytes w v) ≤ length s = omega (arith, be-length w v) in
+    sym (put-some s at w v (lies-in (length s) at w h k) (lt-fits w v f))
+    ∙ sym (sets-eq (beBytes w v) s at l ∙ rw (be-length w v) (append-assoc (take at s) (beBytes w v) (drop (at + w) s)))
+
+-- two runs are one
+pub sets-append : (xs ys l : List ℕ) (at : ℕ) → sets l at (xs ++ ys) ≡ sets (sets l at xs) (at + length xs) ys
+sets-append [] ys l at = rw add-zero
+sets-append (x ∷ xs) ys l at =
+    sets-append xs ys (set l at x) (suc at) ∙ ap (λ (k : ℕ). sets (sets (set l at x) (suc at) xs) k ys) (omega arith)
+
+-- a run behind what stands written so far
+pub then-sets : (pre xs l : List ℕ) (n : ℕ) {b b′ : List ℕ} → length pre ≡ n → b ≡ sets l 0 pre → b′ ≡ sets b n xs → b′ ≡ sets l 0 (pre ++ xs)
+then-sets pre xs l n {b} {b′} e p q =
+    q ∙ ap₂ (λ (x : List ℕ) (j : ℕ). sets x j xs) p (sym e ∙ sym (zero-add (length pre))) ∙ sym (sets-append pre xs l 0)

@@ -11,6 +11,9 @@ use Rattle.fields.specs.Answer.{Answer, accepted, told}
 use Rattle.fields.proofs.Width.{width-small, fits-lt}
 use Rattle.fields.proofs.Judging.{Passed, passed}
 use Rattle.header.specs.declared.PduHeader.{PduHeader}
+use Rattle.header.specs.declared.flags.Direction.{Direction}
+use Rattle.header.specs.declared.flags.LargeFileFlag.{LargeFileFlag}
+use Rattle.header.specs.Header.{withDirection, withFileFlag, withLength}
 use Rattle.header.specs.Judging.{recordTests, building, Sound}
 
 module _ (h : PduHeader) where
@@ -68,3 +71,8 @@ sound h p =
       sequence-fits = fits-lt _ _ (not-false _ (p .1 .1 .1 .1 .0));
       destination-fits = rw same (fits-lt _ _ (not-false _ (p .1 .1 .1 .1 .1 .0)));
     }
+
+-- direction, file flag and length are not judged
+pub with-tests : (d : Direction) (f : LargeFileFlag) (l : ℕ) (h : PduHeader) → recordTests (withLength l (withFileFlag f (withDirection d h))) ≡ recordTests h
+unfolding recordTests
+with-tests d f l h = refl

@@ -1,6 +1,6 @@
 -- Verifying: the answer at each exit.
 -- Assumes nothing.
-use Prim.Native.Nat.{ℕ, _-_, _≤_, _<_}
+use Prim.Native.Nat.{ℕ, _+_, _-_, _*_, _≤_, _<_}
 use mathlib.Core.Path.{_≡_, refl, sym, ap, _∙_}
 use mathlib.Core.Bool.{Bool, true, false}
 use mathlib.Core.List.{List, [], _∷_}
@@ -8,12 +8,16 @@ use native.Mathlib.Omega.{arith}
 use lib.ListN.{length, take}
 use lib.Seq.{length-take-le}
 use borrow.Author.Tests.{lt-ltb, le-ltb, eq-eqb, ne-eqb}
-use Rattle.fields.specs.BigEndian.{numberAt, beAt}
+use Rattle.fields.specs.BigEndian.{numberAt, beAt, bePut}
 use Rattle.fields.specs.Checksum.{checksumOf}
 use Rattle.fields.specs.Answer.{Answer, accepted, told}
 use Rattle.fields.specs.Staged.{run}
 use Rattle.fields.specs.Demand3.{AtMost}
-use Rattle.fields.proofs.BigEndian.{at-number}
+use Rattle.fields.proofs.Checksum.{checksum-lt}
+use Rattle.fields.proofs.BigEndian.{at-number, be-length, put-beyond, put-sets}
+use lib.Seq.{sets}
+use Rattle.header.proofs.FlagBits.{crc-bit}
+use Rattle.header.specs.declared.flags.CrcFlag.{CrcFlag}
 use Rattle.fields.proofs.Judging.{Passed}
 use Rattle.fields.proofs.Staged.{passed-all, told-before, tests-refused, tests-passed}
 use Rattle.header.specs.declared.PduHeader.{PduHeader}
@@ -21,7 +25,7 @@ use Rattle.header.specs.declared.flags.CrcFlag.the-variants.{NoCrc, With
 use Rattle.header.specs.Flags.{crcBit}
 use Rattle.header.specs.Header.{headerLength, pduLength, dataEnd}
 use Rattle.header.specs.Judging.{recordTests, building}
-use Rattle.header.specs.Verifying.{pduBytes, verifyingRead, verifying}
+use Rattle.header.specs.Verifying.{pduBytes, verifyingRead, verifying, checksumBytes, crcAdded}
 
 -- a PDU has at least its fixed bytes
 pub at-least : (h : PduHeader) (p : ℕ) → p ≡ pduLength h → 4 ≤ p
@@ -96,3 +100,36 @@ unfolding pduBytes
 pdu-is h s p e =
     let k = passed-all (pduBytes h) s p e in
     (k .0, k .1 .1)
+
+-- ---- the writer's side
+
+pub no-crc : (flag : CrcFlag) (n : ℕ) (s : List ℕ) → flag ≡ NoCrc → s ≡ crcAdded flag n s
+unfolding crcAdded
+no-crc flag n s e = rw e
+
+pub crc-nowhere : (flag : CrcFlag) (n : ℕ) (s : List ℕ) → flag ≡ WithCrc → length s < n → s ≡ crcAdded flag n s
+unfolding crcAdded
+crc-nowhere flag n s e l = rw e (put-beyond s n 2 (checksumOf (take n s)) (omega arith))
+
+pub with-crc : (flag : CrcFlag) (n c : ℕ) (s b : List ℕ) → flag ≡ WithCrc → c ≡ checksumOf (take n s) → b ≡ bePut s n 2 c → b ≡ crcAdded flag n s
+unfolding crcAdded
+with-crc flag n c s b e p q = rw (e, ← p) q
+
+-- with room, what is added are the message's checksum bytes
+pub added-sets : (flag : CrcFlag) (n : ℕ) (s : List ℕ) → n + 2 * crcBit flag ≤ length s → crcAdded flag n s ≡ sets s n (checksumBytes flag (take n s))
+unfolding crcAdded
+added-sets NoCrc n s l = refl
+added-sets WithCrc n s l = put-sets s n 2 (checksumOf (take n s)) (omega arith) (omega arith) (checksum-lt (take n s))
+
+pub checksum-length : (flag : CrcFlag) (m : List ℕ) → length (checksumBytes flag m) ≡ 2 * crcBit flag
+checksum-length NoCrc m = refl
+checksum-length WithCrc m = be-length 2 (checksumOf m)
+
+-- P is h and d; E and the checksum are P
+pub pdu-sum : (h : PduHeader) → pduLength h ≡ headerLength h + h .length
+unfolding pduLength
+pdu-sum h = refl
+
+pub end-sum : (h : PduHeader) → dataEnd h + 2 * crcBit (h .crc) ≡ pduLength h
+unfolding dataEnd
+end-sum h = let l = at-least h (pduLength h) refl in omega (arith, crc-bit (h .crc))

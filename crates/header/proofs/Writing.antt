@@ -5,14 +5,18 @@ use mathlib.Core.Path.{_≡_, refl, sym, ap, _∙_}
 use mathlib.Core.List.{List, [], _∷_, _++_}
 use native.Mathlib.Omega.{arith}
 use lib.Dec.{lit<}
+use native.Mathlib.Nat.{zero-add}
 use lib.ListN.{length, drop, length-append}
+use lib.Seq.{sets, sets-eq}
 use borrow.Author.Tests.{lt-ltb, le-ltb, ltb-false}
 use Rattle.fields.specs.BigEndian.{beBytes, bePut}
 use Rattle.fields.specs.Answer.{Answer, accepted, told, firstOf, leaves}
 use Rattle.fields.proofs.BigEndian.{be-length, then-put, then-length}
 use Rattle.fields.proofs.Judging.{Passed, passed, passed-whole, passed-on, refused-on, told-leaves}
 use Rattle.header.specs.declared.PduHeader.{PduHeader}
-use Rattle.header.specs.Header.{entityWidth, sequenceWidth, headerLength, firstByte, fourthByte, headerBytes}
+use Rattle.header.specs.declared.flags.Direction.{Direction}
+use Rattle.header.specs.declared.flags.LargeFileFlag.{LargeFileFlag}
+use Rattle.header.specs.Header.{withDirection, withFileFlag, withLength, entityWidth, sequenceWidth, headerLength, firstByte, fourthByte, headerBytes}
 use Rattle.header.specs.Judging.{recordTests, building, Sound}
 use Rattle.header.specs.Writing.{outputTests, writingHeader, headerMemory}
 
@@ -100,3 +104,16 @@ unfolding headerMemory
 accepted-write h s b n e q =
     let m : headerBytes h ++ drop (length (headerBytes h)) s ≡ leaves (writingHeader h (length s)) (λ _. headerBytes h) s = ap (λ (o : Answer ℕ). leaves o (λ _. headerBytes h) s) e in
     (e, q ∙ ap (λ (k : ℕ). headerBytes h ++ drop k s) (sym (header-length h)) ∙ m)
+
+-- ---- for the writers above: a record that passed, into a buffer that holds it
+
+pub with-length : (d : Direction) (f : LargeFileFlag) (l : ℕ) (h : PduHeader) → headerLength (withLength l (withFileFlag f (withDirection d h))) ≡ headerLength h
+unfolding headerLength
+with-length d f l h = refl
+
+pub header-stored : (h : PduHeader) (s b : List ℕ) → Passed (recordTests h) → headerLength h ≤ length s → b ≡ headerMemory h s → b ≡ sets s 0 (headerBytes h)
+unfolding headerLength
+header-stored h s b good room e =
+    let w = enough h good (length s) (omega arith) room in
+    let l : 0 + length (headerBytes h) ≤ length s = omega (arith, header-length h) in
+    e ∙ sym (accepted-write h s _ (headerLength h) w refl .1) ∙ ap (λ (k : ℕ). headerBytes h ++ drop k s) (sym (header-length h)) ∙ sym (sets-eq (headerBytes h) s 0 l ∙ rw zero-add)

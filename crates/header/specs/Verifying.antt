@@ -3,11 +3,14 @@ use Prim.Native.Nat.{ℕ, _-_}
 use mathlib.Core.Bool.{Bool, _&&_, not}
 use mathlib.Core.List.{List, [], _∷_}
 use lib.Dec.{eqb}
-use Rattle.fields.specs.BigEndian.{numberAt}
+use lib.ListN.{take}
+use Rattle.fields.specs.BigEndian.{numberAt, beBytes, bePut}
 use Rattle.fields.specs.Checksum.{checksumOf}
 use Rattle.fields.specs.Answer.{Test, when}
 use Rattle.fields.specs.Staged.{Staged, accept, _>>=_, _>>_, bytes, test, tests}
 use Rattle.header.specs.declared.PduHeader.{PduHeader}
+use Rattle.header.specs.declared.flags.CrcFlag.{CrcFlag}
+use Rattle.header.specs.declared.flags.CrcFlag.the-variants.{NoCrc, WithCrc}
 use Rattle.header.specs.Flags.{crcBit}
 use Rattle.header.specs.Header.{pduLength, dataEnd}
 use Rattle.header.specs.Judging.{recordTests}
@@ -30,3 +33,15 @@ verifyingRead h = pduBytes h >> accept (dataEnd h)
 -- of any record: 13, 3, 4, 14, then those, else E
 unfoldable pub verifying : PduHeader → Staged ℕ
 verifying h = tests (recordTests h) >> verifyingRead h
+
+-- ---- the writer's side: the checksum behind the first n bytes of a PDU, with the flag
+
+-- the bytes that close a message
+abbrev pub checksumBytes : CrcFlag → List ℕ → List ℕ
+checksumBytes NoCrc m = []
+checksumBytes WithCrc m = beBytes 2 (checksumOf m)
+
+-- the buffer with the checksum of its first n bytes behind them; where it has no room for that, as it was
+unfoldable pub crcAdded : CrcFlag → ℕ → List ℕ → List ℕ
+crcAdded NoCrc n s = s
+crcAdded WithCrc n s = bePut s n 2 (checksumOf (take n s))

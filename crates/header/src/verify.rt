@@ -2,7 +2,7 @@
 ghost use mathlib.Core.Path.{_≡_};
 ghost use Rattle.fields.specs.Staged.{run};
 ghost use Rattle.header.specs.Answers.{lengthAnswer};
-ghost use Rattle.header.specs.Verifying.{verifyingRead, verifying};
+ghost use Rattle.header.specs.Verifying.{verifyingRead, verifying, crcAdded};
 use crate::CrcFlag;
 use crate::HeaderResult;
 use crate::LengthResult;
@@ -45,4 +45,18 @@ impl PduHeader {
             HeaderResult::Header(_) => self.verify_read(buf),
         }
     }
+}
+
+// Stores the checksum of the first n bytes behind them, with the flag. Where there is no room for it no byte changes.
+pub fn add_pdu_crc(buf: &mut [u8], n: usize, flag: CrcFlag)
+    ensures { λ _. ⌜ now (buf .exit) ≡ crcAdded flag n (now (buf .entry)) ⌝ }
+{
+    if let CrcFlag::NoCrc = flag {
+        return;
+    }
+    if buf.len() < n {
+        return;
+    }
+    let sum = crc::checksum(&buf[..n]);
+    be::write_be(buf, n, 2, sum as u64);
 }

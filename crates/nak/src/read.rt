@@ -37,13 +37,14 @@ fn nak_in(header: PduHeader, pdu: &[u8], end: usize) -> Nak
     let area = scope + 2 * width;
     let start_of_scope = be::read_be(pdu, scope, width);
     let end_of_scope = be::read_be(pdu, second, width);
+    let count = (end - area) / (2 * width);
     Nak {
         header,
         start: start_of_scope,
         end: end_of_scope,
         area,
         stop: end,
-        count: (end - area) / (2 * width),
+        count,
     }
 }
 

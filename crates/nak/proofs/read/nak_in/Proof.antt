@@ -30,14 +30,14 @@ read-be-requires c κs = search needs
 read-be-requires-2 : tie.Need-read-be-requires-2
 read-be-requires-2 c κs = search needs
 
-sub-t11 : tie.Need-sub-t11
-sub-t11 c = omega (arith, area-is _ _ _ (c .before .before .header-len .ensures .0) (c .before .before .before .offset-width .ensures .0))
+sub-count : tie.Need-sub-count
+sub-count c = omega (arith, area-is _ _ _ (c .before .before .header-len .ensures .0) (c .before .before .before .offset-width .ensures .0))
 
-mul-t12 : tie.Need-mul-t12
-mul-t12 c = search needs
+mul-count : tie.Need-mul-count
+mul-count c = search needs
 
-div-t13 : tie.Need-div-t13
-div-t13 c = search needs
+div-count : tie.Need-div-count
+div-count c = search needs
 
 returns : tie.Need-returns
 returns c =
@@ -55,7 +55,7 @@ nak-in-spec =
     add-area
     read-be-requires
     read-be-requires-2
-    sub-t11
-    mul-t12
-    div-t13
+    sub-count
+    mul-count
+    div-count
     returns)
