@@ -37,6 +37,14 @@ passed-whole (t ∷ ts) us x y e =
     let p = one (t .holds) (t .says) x (firstOf (ts ++ us) y) e in
     (p .0, passed-whole ts us x y (p .1))
 
+pub passed-first : (ts us : List Test) → Passed (ts ++ us) → Passed ts
+passed-first [] us p = tt
+passed-first (t ∷ ts) us p = (p .0, passed-first ts us (p .1))
+
+pub passed-last : (ts us : List Test) → Passed (ts ++ us) → Passed us
+passed-last [] us p = p
+passed-last (t ∷ ts) us p = passed-last ts us (p .1)
+
 -- where the tests of a part are passed, the rest decides
 pub passed-on : {A : Type 0} (ts us : List Test) (a : A) → Passed ts → firstOf (ts ++ us) a ≡ firstOf us a
 passed-on [] us a p = refl

@@ -2,5 +2,6 @@
 pub mod Codes
 pub mod Reading
 pub mod Walking
+pub mod Writing
 pub mod Cases
 pub mod Demands

@@ -3,5 +3,6 @@ pub mod Directive
 pub mod Nak
 pub mod Reading
 pub mod Requests
+pub mod Writing
 pub mod Cases
 pub mod Demands

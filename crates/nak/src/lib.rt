@@ -9,6 +9,7 @@ use header::PduHeader;
 pub mod directive;
 pub mod read;
 pub mod requests;
+pub mod write;
 
 // A NAK that was read: its header, its scope, and where its requests lie in the bytes that it was read from.
 pub struct Nak {

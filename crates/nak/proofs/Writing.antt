@@ -1,0 +1,284 @@
+-- Writing a NAK: its judgement at each exit, what an accepted one has, and the stores of its bytes. Once for both widths.
+-- Assumes nothing.
+use Prim.Native.Nat.{ℕ, zero, suc, _+_, _-_, _*_, _/_, _%_, _^_, _≤_, _<_}
+use mathlib.Core.Path.{_≡_, refl, sym, ap, ap₂, _∙_}
+use mathlib.Core.Bool.{Bool, true, false, not, _&&_}
+use mathlib.Core.List.{List, [], _∷_, _++_, append-assoc}
+use native.Mathlib.Nat.{zero-add, add-zero, div-add-mod', mul-le-mul-left}
+use native.Mathlib.Numerals.{add-one}
+use native.Mathlib.Omega.{arith}
+use lib.Dec.{eqb, lit<}
+use lib.ListN.{length, getD, take, drop, length-append, drop-of-length-le}
+use lib.Seq.{sets, sets-eq, length-sets, take-at, drop-cons}
+use borrow.Author.Tests.{lt-ltb, le-ltb, ltb-false, eq-eqb, ne-eqb, eqb-true, not-false}
+use Rattle.fields.specs.Width.{fitsWidth}
+use Rattle.fields.specs.BigEndian.{beBytes, bePut}
+use Rattle.fields.specs.Answer.{Answer, accepted, told, firstOf, leaves, Test}
+use Rattle.fields.proofs.Width.{fits-lt}
+use Rattle.fields.proofs.BigEndian.{be-length, put-sets, sets-append, then-sets}
+use Rattle.fields.proofs.Judging.{Passed, passed, passed-first, passed-last, passed-on, refused-on, told-leaves, same-accepted}
+use Rattle.header.specs.declared.PduHeader.{PduHeader}
+use Rattle.header.specs.declared.flags.Direction.the-variants.{TowardsSender}
+use Rattle.header.specs.declared.flags.CrcFlag.{CrcFlag}
+use Rattle.header.specs.declared.flags.LargeFileFlag.{LargeFileFlag}
+use Rattle.header.specs.declared.flags.LargeFileFlag.the-variants.{Normal, Large}
+use Rattle.header.specs.Flags.{crcBit}
+use Rattle.header.specs.Header.{headerLength, pduLength, headerBytes, withDirection, withFileFlag, withLength}
+use Rattle.header.specs.Judging.{recordTests, building}
+use Rattle.header.specs.Writing.{headerMemory}
+use Rattle.header.specs.Verifying.{checksumBytes, crcAdded}
+use Rattle.header.proofs.Judging.{with-tests}
+use Rattle.header.proofs.Writing.{header-length, with-length, header-stored}
+use Rattle.header.proofs.Verifying.{pdu-sum, added-sets, checksum-length}
+use Rattle.nak.specs.declared.write.NakWritten.{NakWritten}
+use Rattle.nak.specs.Nak.{offsetWidth, pairSize, areaStart}
+use Rattle.nak.specs.Writing.{numbersBytes, startBytes, nakOver, nakBytes, dataLength, mostPairs, filled, scopeFits, oddCount, scopeTooLarge, tooMany, noRoom, nakTests, judgingNak, intoRoom, writingNak, nakMemory}
+
+-- ---- the scope
+
+pub scope-no : (file : LargeFileFlag) (w start end : ℕ) → w ≡ offsetWidth file → fitsWidth w start ≡ false → false ≡ scopeFits file start end
+unfolding scopeFits
+scope-no file w start end p e = rw (← p, e)
+
+pub scope-as : (file : LargeFileFlag) (w start end : ℕ) (r : Bool) → w ≡ offsetWidth file → fitsWidth w start ≡ true → r ≡ fitsWidth w end → r ≡ scopeFits file start end
+unfolding scopeFits
+scope-as file w start end r p e q = rw (← p, e, q)
+
+pub scope-fits : (file : LargeFileFlag) (start end : ℕ) → scopeFits file start end ≡ true → (start < 256 ^ offsetWidth file) × (end < 256 ^ offsetWidth file)
+unfolding scopeFits
+scope-fits file start end e = go (fitsWidth (offsetWidth file) start) (fitsWidth (offsetWidth file) end) refl refl e
+  where
+    go : (a b : Bool) → fitsWidth (offsetWidth file) start ≡ a → fitsWidth (offsetWidth file) end ≡ b → (a && b) ≡ true → (start < 256 ^ offsetWidth file) × (end < 256 ^ offsetWidth file)
+    go true true p q d = (fits-lt _ _ p, fits-lt _ _ q)
+    go true false p q d = let z : _≡_ {A = ℕ} 0 1 = cc in absurd (let x : ⊥ = omega arith in x)
+    go false b p q d = let z : _≡_ {A = ℕ} 0 1 = cc in absurd (let x : ⊥ = omega arith in x)
+
+-- ---- the data length: the scope and so many pairs have at most 65,528 bytes, and so d fits 16 bits
+
+pub pairs-bytes : (file : LargeFileFlag) (n w : ℕ) → n ≤ mostPairs file → w ≡ offsetWidth file → 2 * w + n * (2 * w) ≤ 65528
+pairs-bytes Normal n w h e = rw e (omega arith)
+pairs-bytes Large n w h e = rw e (omega arith)
+
+pub data-is : (file : LargeFileFlag) (crc : CrcFlag) (n w b : ℕ) → w ≡ offsetWidth file → b ≡ crcBit crc → 1 + 2 * w + n * (2 * w) + 2 * b ≡ dataLength file crc n
+unfolding dataLength
+data-is file crc n w b p q = rw (p, q)
+
+pub filled-is : (file : LargeFileFlag) (n d : ℕ) (h a b c : PduHeader) → d ≡ dataLength file (h .crc) n → a ≡ withDirection TowardsSender h → b ≡ withFileFlag file a → c ≡ withLength d b → c ≡ filled file n h
+unfolding filled
+filled-is file n d h a b c p q r s = s ∙ ap₂ withLength p (r ∙ ap (withFileFlag file) q)
+
+-- ---- the judgement
+
+module _ (file : LargeFileFlag) (h : PduHeader) (start end count : ℕ) where
+  pub refused-nak : (ns : List ℕ) → told ns ≡ building h → told ns ≡ judgingNak file h start end count
+  unfolding building judgingNak nakTests
+  refused-nak ns e = refused-on ns (recordTests h) _ h _ e
+
+  module _ (good : Passed (recordTests h)) where
+    rest : judgingNak file h start end count ≡ firstOf (oddCount count ∷ scopeTooLarge file start end ∷ tooMany file (count / 2) ∷ []) (filled file (count / 2) h)
+    unfolding judgingNak nakTests
+    rest = passed-on (recordTests h) _ _ good
+
+    pub odd : (count % 2 ≡ 0 → ⊥) → told (12 ∷ count ∷ []) ≡ judgingNak file h start end count
+    unfolding told
+    odd n = rw (rest, ne-eqb _ _ n)
+
+    module _ (even : count % 2 ≡ 0) where
+      pub bad-scope : scopeFits file start end ≡ false → told (9 ∷ start ∷ end ∷ []) ≡ judgingNak file h start end count
+      unfolding told
+      bad-scope s = rw (rest, eq-eqb _ _ even, s)
+
+      module _ (scope : scopeFits file start end ≡ true) (most : ℕ) (pm : most ≡ mostPairs file) where
+        pub too-many : most < count / 2 → told (10 ∷ count / 2 ∷ most ∷ []) ≡ judgingNak file h start end count
+        unfolding told
+        too-many l = rw (rest, eq-eqb _ _ even, scope, ← pm, lt-ltb _ _ l)
+
+        pub judged-nak : count / 2 ≤ most → accepted (filled file (count / 2) h) ≡ judgingNak file h start end count
+        judged-nak l = rw (rest, eq-eqb _ _ even, scope, ← pm, le-ltb _ _ l)
+
+-- ---- room
+
+pub no-room : (h : PduHeader) (room p : ℕ) → p ≡ pduLength h → room < p → told (11 ∷ room ∷ p ∷ []) ≡ intoRoom [] h room
+unfolding told intoRoom
+no-room h room p e l = rw (← e, lt-ltb _ _ l)
+
+pub has-room : (h : PduHeader) (room p : ℕ) → p ≡ pduLength h → p ≤ room → accepted (record { header = h; length = p }) ≡ intoRoom [] h room
+unfolding intoRoom
+has-room h room p e l = rw (← e, le-ltb _ _ l)
+
+module _ (file : LargeFileFlag) (h : PduHeader) (start end count room : ℕ) where
+  pub refused-write : (ns : List ℕ) → told ns ≡ judgingNak file h start end count → told ns ≡ writingNak file h start end count room
+  unfolding judgingNak writingNak intoRoom
+  refused-write ns e = refused-on ns (nakTests file h start end count) _ _ _ e
+
+  pub into-room : (w : PduHeader) → accepted w ≡ judgingNak file h start end count → intoRoom [] w room ≡ writingNak file h start end count room
+  unfolding judgingNak writingNak intoRoom
+  into-room w e =
+      let p = passed (nakTests file h start end count) w (filled file (count / 2) h) e in
+      ap (λ (x : PduHeader). firstOf (noRoom room x ∷ []) (record { header = x; length = pduLength x })) (p .1)
+      ∙ sym (passed-on (nakTests file h start end count) (noRoom room (filled file (count / 2) h) ∷ []) _ (p .0))
+
+-- ---- what an accepted one has
+
+pub record ToWrite (file : LargeFileFlag) (h : PduHeader) (start end count room : ℕ) (w : NakWritten) : Type 0 where
+  pub header-is : w .header ≡ filled file (count / 2) h
+  pub length-is : w .length ≡ pduLength (w .header)
+  pub good : Passed (recordTests (w .header))
+  pub flag : w .header .file ≡ file
+  pub scope : scopeFits file start end ≡ true
+  pub even : count ≡ 2 * (count / 2)
+  pub fewer : count / 2 ≤ mostPairs file
+  pub room-is : w .length ≤ room
+  pub whole : areaStart (w .header) + offsetWidth file * count + 2 * crcBit (w .header .crc) ≡ pduLength (w .header)
+
+-- ---- the stores
+
+-- header, directive, scope
+pub start-stored : (h : PduHeader) (start end a w : ℕ) (s b₁ b₂ b₃ b₄ : List ℕ) → Passed (recordTests h) → areaStart h ≤ length s → scopeFits (h .file) start end ≡ true
+    → a ≡ headerLength h → w ≡ offsetWidth (h .file) → w ≤ 8
+    → b₁ ≡ headerMemory h s → b₂ ≡ bePut b₁ a 1 8 → b₃ ≡ bePut b₂ (a + 1) w start → b₄ ≡ bePut b₃ (a + 1 + w) w end
+    → (b₄ ≡ sets s 0 (startBytes h start end)) × (length b₄ ≡ length s)
+unfolding startBytes areaStart
+start-stored h start end a w s b₁ b₂ b₃ b₄ good room scope pa pw small e₁ e₂ e₃ e₄ =
+    let f = scope-fits (h .file) start end scope in
+    let l : a + 1 + 2 * w ≤ length s = rw (pa, pw) room in
+    let fs : start < 256 ^ w = rw pw (f .0) in
+    let fe : end < 256 ^ w = rw pw (f .1) in
+    let x₁ = headerBytes h in
+    let x₂ = x₁ ++ beBytes 1 8 in
+    let x₃ = x₂ ++ beBytes w start in
+    let n₁ : length x₁ ≡ a = header-length h ∙ sym pa in
+    let n₂ : length x₂ ≡ a + 1 = simp (length-append, be-length, n₁) in
+    let n₃ : length x₃ ≡ a + 1 + w = simp (length-append, be-length, n₁) in
+    let p₁ : b₁ ≡ sets s 0 x₁ = header-stored h s b₁ good (omega arith) e₁ in
+    let m₁ : length b₁ ≡ length s = ap length p₁ ∙ length-sets s 0 x₁ in
+    let p₂ : b₂ ≡ sets s 0 x₂ = then-sets x₁ (beBytes 1 8) s a n₁ p₁ (e₂ ∙ put-sets b₁ a 1 8 (omega arith) (omega arith) (lit< tt)) in
+    let m₂ : length b₂ ≡ length s = ap length p₂ ∙ length-sets s 0 x₂ in
+    let p₃ : b₃ ≡ sets s 0 x₃ = then-sets x₂ (beBytes w start) s (a + 1) n₂ p₂ (e₃ ∙ put-sets b₂ (a + 1) w start small (omega arith) fs) in
+    let m₃ : length b₃ ≡ length s = ap length p₃ ∙ length-sets s 0 x₃ in
+    let p₄ : b₄ ≡ sets s 0 (x₃ ++ beBytes w end) = then-sets x₃ (beBytes w end) s (a + 1 + w) n₃ p₃ (e₄ ∙ put-sets b₃ (a + 1 + w) w end small (omega arith) fe) in
+    let whole : b₄ ≡ sets s 0 (x₁ ++ beBytes 1 8 ++ beBytes (offsetWidth (h .file)) start ++ beBytes (offsetWidth (h .file)) end) = p₄ ∙ rw pw in
+    (whole, ap length p₄ ∙ length-sets s 0 (x₃ ++ beBytes w end))
+
+-- a turn of the loop over the numbers, and its end: what is left to do
+pub number-turn : (w at i v : ℕ) (l m ns : List ℕ) → w ≤ 8 → at + w * length ns ≤ length l → i < length ns → v ≡ getD ns i 0 → v < 256 ^ w → m ≡ bePut l (at + w * i) w v
+    → sets m (at + w * (i + 1)) (numbersBytes w (drop (i + 1) ns)) ≡ sets l (at + w * i) (numbersBytes w (drop i ns))
+unfolding numbersBytes
+number-turn w at i v l m ns small room h q f p =
+    let k : w * (i + 1) ≤ w * length ns = mul-le-mul-left w (omega arith) in
+    let e : at + w * (i + 1) ≡ at + w * i + length (beBytes w (getD ns i 0)) = omega (arith, be-length w (getD ns i 0)) in
+    let p′ : m ≡ sets l (at + w * i) (beBytes w (getD ns i 0)) = p ∙ put-sets l (at + w * i) w v small (omega arith) f ∙ ap (λ (x : ℕ). sets l (at + w * i) (beBytes w x)) q in
+    rw (p′, drop-cons ns i 0 h, sets-append, e, add-one)
+
+pub numbers-done : (w at i : ℕ) (l m ns : List ℕ) → length ns ≤ i → sets l (at + w * i) (numbersBytes w (drop i ns)) ≡ m → l ≡ m
+unfolding numbersBytes
+numbers-done w at i l m ns e h = rw (drop-of-length-le ns e) at h
+
+pub numbers-length : (w : ℕ) (ns : List ℕ) → length (numbersBytes w ns) ≡ w * length ns
+unfolding numbersBytes
+numbers-length w [] = omega arith
+numbers-length w (n ∷ ns) = simp (length-append, be-length, numbers-length w ns) (omega arith)
+
+-- ---- what an accepted write has
+
+-- count numbers of w bytes are so many pairs
+doubled : (file : LargeFileFlag) (count : ℕ) → count ≡ 2 * (count / 2) → (count / 2) * pairSize file ≡ offsetWidth file * count
+doubled Normal count e = omega arith
+doubled Large count e = omega arith
+
+filled-whole : (file : LargeFileFlag) (h : PduHeader) (count : ℕ) → count ≡ 2 * (count / 2)
+    → areaStart (filled file (count / 2) h) + offsetWidth file * count + 2 * crcBit (filled file (count / 2) h .crc) ≡ pduLength (filled file (count / 2) h)
+unfolding areaStart filled dataLength
+filled-whole file h count e = omega (arith, pdu-sum (filled file (count / 2) h), doubled file count e)
+
+filled-good : (file : LargeFileFlag) (n : ℕ) (h : PduHeader) → Passed (recordTests h) → Passed (recordTests (filled file n h))
+unfolding filled
+filled-good file n h p = rw (with-tests TowardsSender file (dataLength file (h .crc) n) h) p
+
+filled-flag : (file : LargeFileFlag) (n : ℕ) (h : PduHeader) → filled file n h .file ≡ file
+unfolding filled
+filled-flag file n h = refl
+
+module _ (file : LargeFileFlag) (h : PduHeader) (start end count room : ℕ) (w : NakWritten) (e : accepted w ≡ writingNak file h start end count room) where
+  abbrev F : PduHeader
+  F = filled file (count / 2) h
+
+  pub to-write : ToWrite file h start end count room w
+  unfolding writingNak intoRoom nakTests
+  to-write =
+      let p = passed (nakTests file h start end count ++ (noRoom room F ∷ [])) w (record { header = F; length = pduLength F }) e in
+      let q = passed-first (nakTests file h start end count) (noRoom room F ∷ []) (p .0) in
+      let r = passed-last (nakTests file h start end count) (noRoom room F ∷ []) (p .0) in
+      let g = passed-first (recordTests h) (oddCount count ∷ scopeTooLarge file start end ∷ tooMany file (count / 2) ∷ []) q in
+      let u = passed-last (recordTests h) (oddCount count ∷ scopeTooLarge file start end ∷ tooMany file (count / 2) ∷ []) q in
+      let is : w .header ≡ F = ap (λ (x : NakWritten). x .header) (p .1) in
+      let long : w .length ≡ pduLength F = ap (λ (x : NakWritten). x .length) (p .1) in
+      let even : count ≡ 2 * (count / 2) = omega (arith, eqb-true (count % 2) 0 (not-false (eqb (count % 2) 0) (u .0)), div-add-mod' count 2) in
+      record {
+        header-is = is;
+        length-is = long ∙ sym (ap pduLength is);
+        good = rw is (filled-good file (count / 2) h g);
+        flag = ap (λ (x : PduHeader). x .file) is ∙ filled-flag file (count / 2) h;
+        scope = not-false _ (u .1 .0);
+        even = even;
+        fewer = ltb-false _ _ (u .1 .1 .0);
+        room-is = rw long (ltb-false _ _ (r .0));
+        whole = rw is (filled-whole file h count even);
+      }
+
+-- there is room for header, directive and scope, and for the numbers behind them
+pub start-room : (file : LargeFileFlag) (h : PduHeader) (start end count room : ℕ) (w : NakWritten) → ToWrite file h start end count room w → areaStart (w .header) ≤ room
+start-room file h start end count room w z = omega (arith, z .whole, z .room-is, z .length-is)
+
+pub numbers-room : (file : LargeFileFlag) (h : PduHeader) (start end count room : ℕ) (w : NakWritten) → ToWrite file h start end count room w → areaStart (w .header) + offsetWidth file * count ≤ room
+numbers-room file h start end count room w z = omega (arith, z .whole, z .room-is, z .length-is)
+
+start-length : (h : PduHeader) (start end : ℕ) → length (startBytes h start end) ≡ areaStart h
+unfolding startBytes areaStart
+start-length h start end = simp (length-append, be-length, header-length) (omega arith)
+
+-- ---- an accepted write, from what its calls left in the buffer
+
+pub nothing-written : (file : LargeFileFlag) (h : PduHeader) (start end : ℕ) (numbers s ns : List ℕ) → told ns ≡ writingNak file h start end (length numbers) (length s)
+    → (told ns ≡ writingNak file h start end (length numbers) (length s)) × (s ≡ nakMemory file h start end numbers s)
+unfolding nakMemory
+nothing-written file h start end numbers s ns e = (e, told-leaves ns _ _ s e)
+
+module _ (file : LargeFileFlag) (h : PduHeader) (start end : ℕ) (numbers s : List ℕ) (w : NakWritten)
+    (e : accepted w ≡ writingNak file h start end (length numbers) (length s)) where
+  pub nak-written : (u n : ℕ) (b₁ b₂ b₃ : List ℕ) → u ≡ offsetWidth file → n ≡ areaStart (w .header)
+      → b₁ ≡ sets s 0 (startBytes (w .header) start end) → b₂ ≡ sets b₁ n (numbersBytes u numbers) → b₃ ≡ crcAdded (w .header .crc) (n + u * length numbers) b₂
+      → (accepted w ≡ writingNak file h start end (length numbers) (length s)) × (b₃ ≡ nakMemory file h start end numbers s)
+  unfolding nakMemory nakBytes nakOver
+  nak-written u n b₁ b₂ b₃ pu pn e₁ e₂ e₃ =
+      let z = to-write file h start end (length numbers) (length s) w e in
+      let k = w .header in
+      let m = n + u * length numbers in
+      let A = startBytes k start end in
+      let B = numbersBytes u numbers in
+      let X = A ++ B in
+      let C = checksumBytes (k .crc) X in
+      let lA : length A ≡ n = start-length k start end ∙ sym pn in
+      let lX : length X ≡ m = simp (length-append, numbers-length, lA) in
+      let lC : length C ≡ 2 * crcBit (k .crc) = checksum-length (k .crc) X in
+      let fit : m + 2 * crcBit (k .crc) ≤ length s = omega (arith, rw (← pu, ← pn) at (z .whole), z .room-is, z .length-is) in
+      let p₂ : b₂ ≡ sets s 0 X = then-sets A B s n lA e₁ e₂ in
+      let l₂ : length b₂ ≡ length s = ap length p₂ ∙ length-sets s 0 X in
+      let t₂ : take m b₂ ≡ X = ap (take m) (p₂ ∙ sets-eq X s 0 (omega arith)) ∙ take-at X (drop (0 + length X) s) m lX in
+      let p₃ : b₃ ≡ sets s 0 (X ++ C) = then-sets X C s m lX p₂ (e₃ ∙ added-sets (k .crc) m b₂ (omega arith) ∙ ap (λ (x : List ℕ). sets b₂ m (checksumBytes (k .crc) x)) t₂) in
+      let lXC : length (X ++ C) ≤ length s = omega (arith, length-append X C) in
+      let p₄ : b₃ ≡ (X ++ C) ++ drop (length (X ++ C)) s = p₃ ∙ sets-eq (X ++ C) s 0 (omega arith) ∙ ap (λ (j : ℕ). (X ++ C) ++ drop j s) (zero-add (length (X ++ C))) in
+      let pw : offsetWidth (k .file) ≡ u = ap offsetWidth (z .flag) ∙ sym pu in
+      (e, p₄ ∙ ap (λ (v : ℕ). nakIs v ++ drop (length (nakIs v)) s) (sym pw) ∙ ap (λ (o : Answer NakWritten). leaves o (λ (x : NakWritten). nakBytes (x .header) start end numbers) s) e)
+    where
+      nakIs : ℕ → List ℕ
+      nakIs v = startBytes (w .header) start end ++ numbersBytes v numbers ++ checksumBytes (w .header .crc) (startBytes (w .header) start end ++ numbersBytes v numbers)
+
+-- with no list nothing stands between the scope and the checksum
+pub none-written : (file : LargeFileFlag) (h : PduHeader) (start end : ℕ) (s : List ℕ) (w : NakWritten) (n : ℕ) (b₁ b₃ : List ℕ) → accepted w ≡ writingNak file h start end 0 (length s)
+    → n ≡ areaStart (w .header) → b₁ ≡ sets s 0 (startBytes (w .header) start end) → b₃ ≡ crcAdded (w .header .crc) n b₁
+    → (accepted w ≡ writingNak file h start end 0 (length s)) × (b₃ ≡ nakMemory file h start end [] s)
+unfolding numbersBytes
+none-written file h start end s w n b₁ b₃ e pn e₁ e₃ =
+    let z : n ≡ n + offsetWidth file * 0 = omega arith in
+    nak-written file h start end [] s w e (offsetWidth file) n b₁ b₁ b₃ refl pn e₁ refl (e₃ ∙ ap (λ (j : ℕ). crcAdded (w .header .crc) j b₁) z)

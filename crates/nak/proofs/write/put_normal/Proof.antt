@@ -1,0 +1,83 @@
+-- `nak::write::put_normal` meets its contract. The loop's invariant: storing the numbers that are left gives what is to be stored.
+-- Assumes nothing.
+use Prim.Native.Nat.{ℕ, _+_, _-_, _*_, _≤_}
+use mathlib.Core.Path.{_≡_, refl, ap, _∙_}
+use native.Mathlib.Nat.{add-zero}
+use native.Mathlib.Omega.{arith}
+use lib.ListN.{length, drop}
+use lib.Seq.{sets}
+use Rattle.fields.proofs.BigEndian.{put-length}
+use Rattle.nak.specs.Writing.{numbersBytes}
+use Rattle.nak.proofs.Writing.{number-turn, numbers-done}
+use borrow.Author.Needs.{needs}
+use Rattle.nak.proofs.write.put_normal.Statement.{statement}
+use Rattle.nak.proofs.write.put_normal.Tie as tie
+
+abbrev Inv-loop : tie.InvT-loop
+Inv-loop buf₀ at numbers i₀ buf i =
+    (i ≤ length numbers) × (length buf ≡ length buf₀) × (sets buf (at + 4 * i) (numbersBytes 4 (drop i numbers)) ≡ sets buf₀ at (numbersBytes 4 numbers))
+
+abbrev μ-loop : tie.MeasureT-loop
+μ-loop buf₀ at numbers i₀ buf i = length numbers - i
+
+loop-holds : tie.Need-loop-holds Inv-loop μ-loop
+loop-holds c = (search needs, refl, rw add-zero)
+
+mul-write-be : tie.Need-mul-write-be Inv-loop μ-loop
+mul-write-be c = search needs
+
+add-write-be : tie.Need-add-write-be Inv-loop μ-loop
+add-write-be c = search needs
+
+mul-write-be-2 : tie.Need-mul-write-be-2 Inv-loop μ-loop
+mul-write-be-2 c = search needs
+
+shared-slice-read-write-be : tie.Need-shared-slice-read-write-be Inv-loop μ-loop
+shared-slice-read-write-be c = search needs
+
+cast-write-be : tie.Need-cast-write-be Inv-loop μ-loop
+cast-write-be c = omega (arith, c .shared-slice-known2 .given (c .before .before .before .loop .i))
+
+write-be-requires : tie.Need-write-be-requires Inv-loop μ-loop
+write-be-requires c κs = search needs
+
+add-i : tie.Need-add-i Inv-loop μ-loop
+add-i c = search needs
+
+loop-less : tie.Need-loop-less Inv-loop μ-loop
+loop-less c = search needs
+
+loop-again : tie.Need-loop-again Inv-loop μ-loop
+loop-again c =
+    let l = c .before .before .before .before .before .before .loop in
+    let a = c .before .before .before .before .before .before .before .before .before .args in
+    let f = c .before .before .before .shared-slice-known2 .given (l .i) in (
+      omega arith,
+      ap length (c .before .before .write-be .ensures) ∙ put-length _ _ _ _ ∙ l .inv .1,
+      number-turn 4 (a .at) (l .i) _ (l .buf) _ (a .numbers .now) (omega arith) (omega arith) (omega arith) refl (omega (arith, f)) (c .before .before .write-be .ensures) ∙ l .inv .2,
+    )
+
+same-length : tie.Need-same-length Inv-loop μ-loop
+same-length c = search needs
+
+returns : tie.Need-returns Inv-loop μ-loop
+returns c = numbers-done 4 _ (c .before .loop .i) _ _ _ (omega arith) (c .before .loop .inv .2)
+
+pub put-normal-spec : {M : Type 1} → statement M
+put-normal-spec =
+    tie.close
+    (tie.spec
+    Inv-loop
+    μ-loop
+    loop-holds
+    mul-write-be
+    add-write-be
+    mul-write-be-2
+    shared-slice-read-write-be
+    cast-write-be
+    write-be-requires
+    add-i
+    loop-less
+    loop-again
+    same-length
+    returns)

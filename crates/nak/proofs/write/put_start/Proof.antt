@@ -1,0 +1,59 @@
+-- `nak::write::put_start` meets its contract: header, directive and scope, each behind the one before.
+-- Assumes nothing.
+use native.Mathlib.Omega.{arith}
+use Rattle.nak.proofs.Reading.{area-is}
+use Rattle.nak.proofs.Writing.{start-stored}
+use borrow.Author.Needs.{needs}
+use Rattle.nak.proofs.write.put_start.Statement.{statement}
+use Rattle.nak.proofs.write.put_start.Tie as tie
+
+header-len-requires : tie.Need-header-len-requires
+header-len-requires c κs = search needs
+
+offset-width-requires : tie.Need-offset-width-requires
+offset-width-requires c κs = search needs
+
+add-first : tie.Need-add-first
+add-first c = search needs
+
+add-second : tie.Need-add-second
+add-second c = search needs
+
+write-to-slice-requires : tie.Need-write-to-slice-requires
+write-to-slice-requires c κs = search needs
+
+write-be-requires : tie.Need-write-be-requires
+write-be-requires c κs = search needs
+
+write-be-requires-2 : tie.Need-write-be-requires-2
+write-be-requires-2 c κs = search needs
+
+write-be-requires-3 : tie.Need-write-be-requires-3
+write-be-requires-3 c κs = search needs
+
+add-result : tie.Need-add-result
+add-result c = search needs
+
+same-length : tie.Need-same-length
+same-length c = search needs
+
+returns : tie.Need-returns
+returns c =
+    let s = start-stored _ _ _ _ _ _ _ _ _ _ (c .before .before .before .before .before .before .before .before .before .before .before .before .before .before .before .before .before .before .before .pre .0) (c .before .before .before .before .before .before .before .before .before .before .before .before .before .before .before .before .before .before .before .pre .1) (c .before .before .before .before .before .before .before .before .before .before .before .before .before .before .before .before .before .before .before .pre .2) (c .before .before .before .before .before .before .before .before .before .before .before .before .before .before .before .before .before .header-len .ensures .0) (c .before .before .before .before .before .before .before .before .before .before .before .before .before .before .before .before .offset-width .ensures .0) (c .before .before .before .before .before .before .before .before .before .before .before .before .before .before .before .before .offset-width .ensures .2) (c .before .before .before .before .before .before .before .before .before .before .before .before .before .before .write-to-slice .ensures .1) (c .before .before .before .before .before .before .before .before .before .before .write-be .ensures) (c .before .before .before .before .before .before .write-be2 .ensures) (c .before .before .write-be3 .ensures) in
+    (omega (arith, area-is _ _ _ (c .before .before .before .before .before .before .before .before .before .before .before .before .before .before .before .before .before .header-len .ensures .0) (c .before .before .before .before .before .before .before .before .before .before .before .before .before .before .before .before .offset-width .ensures .0)), s .0, s .1)
+
+pub put-start-spec : {M : Type 1} → statement M
+put-start-spec =
+    tie.close
+    (tie.spec
+    header-len-requires
+    offset-width-requires
+    add-first
+    add-second
+    write-to-slice-requires
+    write-be-requires
+    write-be-requires-2
+    write-be-requires-3
+    add-result
+    same-length
+    returns)

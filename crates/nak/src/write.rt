@@ -1,0 +1,260 @@
+// Writing a NAK (the Rust's `NakPduCreator`): with no list, a list of 32-bit numbers, or a list of 64-bit numbers, start and end by turns.
+ghost use mathlib.Core.Path.{_≡_};
+ghost use mathlib.Core.Bool.{true};
+ghost use mathlib.Core.List.{[]};
+ghost use Prim.Native.Nat.{_+_, _*_, _≤_};
+ghost use lib.ListN.{length};
+ghost use lib.Seq.{sets};
+ghost use Rattle.fields.proofs.Judging.{Passed};
+ghost use Rattle.header.specs.Answers.{headerAnswer};
+ghost use Rattle.header.specs.Judging.{recordTests};
+ghost use Rattle.nak.specs.Nak.{offsetWidth, areaStart};
+ghost use Rattle.nak.specs.Writing.{writeAnswer, numbersBytes, startBytes, dataLength, mostPairs, filled, scopeFits, judgingNak, intoRoom, writingNak, nakMemory};
+use crate::offset_width;
+use fields::Refusal;
+use fields::be;
+use header::CrcFlag;
+use header::Direction;
+use header::HeaderResult;
+use header::LargeFileFlag;
+use header::PduHeader;
+use header::verify;
+
+// The code of a NAK.
+const NAK_CODE: u64 = 8;
+
+// The header as it was written, its length filled in, and the written bytes.
+pub struct NakWritten {
+    pub header: PduHeader,
+    pub length: usize,
+}
+
+// A NAK that was written, or why it was not.
+pub enum WriteResult {
+    Written(NakWritten),
+    Refused(Refusal),
+}
+
+// The pairs that fit a data field of 65,535 bytes, with or without CRC.
+fn most_pairs(file: LargeFileFlag) -> usize
+    ensures { λ r. ⌜ r ≡ mostPairs file ⌝ }
+{
+    match file {
+        LargeFileFlag::Normal => 8190,
+        LargeFileFlag::Large => 4094,
+    }
+}
+
+fn scope_fits(file: LargeFileFlag, start: u64, end: u64) -> bool
+    ensures { λ r. ⌜ r ≡ scopeFits file start end ⌝ }
+{
+    let width = offset_width(file);
+    if !be::fits(start, width) {
+        return false;
+    }
+    be::fits(end, width)
+}
+
+// The data field's length is computed wide; so many pairs fit, and so it fits 16 bits.
+fn data_length(file: LargeFileFlag, crc: CrcFlag, pairs: usize) -> u16
+    requires { ⌜ pairs ≤ mostPairs file ⌝ }
+    ensures { λ r. ⌜ r ≡ dataLength file crc pairs ⌝ }
+{
+    let pair = 2 * offset_width(file);
+    let sum = 2 * (crc.bit() as usize);
+    let wide = 1 + pair + pairs * pair + sum;
+    wide as u16
+}
+
+// The header that is handed back: direction towards the sender, the file flag of the list, the length of so many pairs.
+fn fill(header: PduHeader, file: LargeFileFlag, pairs: usize) -> PduHeader
+    requires { ⌜ pairs ≤ mostPairs file ⌝ }
+    ensures { λ r. ⌜ r ≡ filled file pairs header ⌝ }
+{
+    let crc = header.crc;
+    let length = data_length(file, crc, pairs);
+    header
+        .with_direction(Direction::TowardsSender)
+        .with_file_flag(file)
+        .with_datafield_len(length)
+}
+
+// The writer's judgement but for the room: the header that is handed back.
+fn judge_nak(
+    header: PduHeader,
+    file: LargeFileFlag,
+    start: u64,
+    end: u64,
+    count: usize,
+) -> HeaderResult
+    ensures { λ r. ⌜ headerAnswer r ≡ judgingNak file header start end count ⌝ }
+{
+    let judged = header.judged();
+    match judged {
+        HeaderResult::Refused(refusal) => HeaderResult::Refused(refusal),
+        HeaderResult::Header(_) => {
+            if count % 2 != 0 {
+                return HeaderResult::Refused(Refusal::OddCount(count));
+            }
+            if !scope_fits(file, start, end) {
+                return HeaderResult::Refused(Refusal::InvalidStartOrEndOfScope { start, end });
+            }
+            let pairs = count / 2;
+            let most = most_pairs(file);
+            if most < pairs {
+                return HeaderResult::Refused(Refusal::TooManySegmentRequests {
+                    found: pairs,
+                    most,
+                });
+            }
+            HeaderResult::Header(fill(header, file, pairs))
+        }
+    }
+}
+
+// Room for the whole PDU of a judged header.
+fn with_room(header: PduHeader, room: usize) -> WriteResult
+    ensures { λ r. ⌜ writeAnswer r ≡ intoRoom [] header room ⌝ }
+{
+    let length = header.pdu_len();
+    if room < length {
+        return WriteResult::Refused(Refusal::ToSliceTooSmall {
+            found: room,
+            expected: length,
+        });
+    }
+    WriteResult::Written(NakWritten { header, length })
+}
+
+fn writable(
+    header: PduHeader,
+    file: LargeFileFlag,
+    start: u64,
+    end: u64,
+    count: usize,
+    room: usize,
+) -> WriteResult
+    ensures { λ r. ⌜ writeAnswer r ≡ writingNak file header start end count room ⌝ }
+{
+    let judged = judge_nak(header, file, start, end, count);
+    match judged {
+        HeaderResult::Refused(refusal) => WriteResult::Refused(refusal),
+        HeaderResult::Header(header) => with_room(header, room),
+    }
+}
+
+// Header, directive and scope, at the front of the buffer; where the requests start.
+fn put_start(buf: &mut [u8], header: PduHeader, start: u64, end: u64) -> usize
+    requires { ⌜ Passed (recordTests header) × (areaStart header ≤ length (now buf)) × (scopeFits (header .file) start end ≡ true) ⌝ }
+    ensures { λ r. ⌜ (r ≡ areaStart header) × (now (buf .exit) ≡ sets (now (buf .entry)) 0 (startBytes header start end)) × (length (now (buf .exit)) ≡ length (now (buf .entry))) ⌝ }
+{
+    let at = header.header_len();
+    let file = header.file;
+    let width = offset_width(file);
+    let first = at + 1;
+    let second = first + width;
+    header.write_to_slice(buf);
+    be::write_be(buf, at, 1, NAK_CODE);
+    be::write_be(buf, first, width, start);
+    be::write_be(buf, second, width, end);
+    second + width
+}
+
+// Normal numbers, one behind the other from `at`.
+fn put_normal(buf: &mut [u8], at: usize, numbers: &[u32])
+    requires { ⌜ at + 4 * length (now numbers) ≤ length (now buf) ⌝ }
+    ensures { λ _. ⌜ now (buf .exit) ≡ sets (now (buf .entry)) at (numbersBytes 4 (now (numbers .entry))) ⌝ }
+{
+    let mut i = 0;
+    while i < numbers.len() {
+        be::write_be(buf, at + 4 * i, 4, numbers[i] as u64);
+        i += 1;
+    }
+}
+
+// Large numbers, one behind the other from `at`.
+fn put_large(buf: &mut [u8], at: usize, numbers: &[u64])
+    requires { ⌜ at + 8 * length (now numbers) ≤ length (now buf) ⌝ }
+    ensures { λ _. ⌜ now (buf .exit) ≡ sets (now (buf .entry)) at (numbersBytes 8 (now (numbers .entry))) ⌝ }
+{
+    let mut i = 0;
+    while i < numbers.len() {
+        be::write_be(buf, at + 8 * i, 8, numbers[i]);
+        i += 1;
+    }
+}
+// No list: the header's file flag stands.
+pub fn write_no_segment_requests(
+    header: PduHeader,
+    start: u64,
+    end: u64,
+    buf: &mut [u8],
+) -> WriteResult
+    ensures answered { λ r. ⌜ writeAnswer r ≡ writingNak (header .file) header start end 0 (length (now (buf .entry))) ⌝ }
+    ensures stored { λ _. ⌜ now (buf .exit) ≡ nakMemory (header .file) header start end [] (now (buf .entry)) ⌝ }
+{
+    let file = header.file;
+    let answer = writable(header, file, start, end, 0, buf.len());
+    match answer {
+        WriteResult::Refused(refusal) => WriteResult::Refused(refusal),
+        WriteResult::Written(written) => {
+            let header = written.header;
+            let crc = header.crc;
+            let at = put_start(buf, header, start, end);
+            verify::add_pdu_crc(buf, at, crc);
+            WriteResult::Written(written)
+        }
+    }
+}
+
+// A list of 32-bit numbers, even an empty one, clears the large file flag.
+pub fn write_normal_file_size(
+    header: PduHeader,
+    start: u64,
+    end: u64,
+    numbers: &[u32],
+    buf: &mut [u8],
+) -> WriteResult
+    ensures answered { λ r. ⌜ writeAnswer r ≡ writingNak LargeFileFlag.Normal header start end (length (now (numbers .entry))) (length (now (buf .entry))) ⌝ }
+    ensures stored { λ _. ⌜ now (buf .exit) ≡ nakMemory LargeFileFlag.Normal header start end (now (numbers .entry)) (now (buf .entry)) ⌝ }
+{
+    let count = numbers.len();
+    let answer = writable(header, LargeFileFlag::Normal, start, end, count, buf.len());
+    match answer {
+        WriteResult::Refused(refusal) => WriteResult::Refused(refusal),
+        WriteResult::Written(written) => {
+            let header = written.header;
+            let crc = header.crc;
+            let at = put_start(buf, header, start, end);
+            put_normal(buf, at, numbers);
+            verify::add_pdu_crc(buf, at + 4 * count, crc);
+            WriteResult::Written(written)
+        }
+    }
+}
+
+// A list of 64-bit numbers sets it.
+pub fn write_large_file_size(
+    header: PduHeader,
+    start: u64,
+    end: u64,
+    numbers: &[u64],
+    buf: &mut [u8],
+) -> WriteResult
+    ensures answered { λ r. ⌜ writeAnswer r ≡ writingNak LargeFileFlag.Large header start end (length (now (numbers .entry))) (length (now (buf .entry))) ⌝ }
+    ensures stored { λ _. ⌜ now (buf .exit) ≡ nakMemory LargeFileFlag.Large header start end (now (numbers .entry)) (now (buf .entry)) ⌝ }
+{
+    let count = numbers.len();
+    let answer = writable(header, LargeFileFlag::Large, start, end, count, buf.len());
+    match answer {
+        WriteResult::Refused(refusal) => WriteResult::Refused(refusal),
+        WriteResult::Written(written) => {
+            let header = written.header;
+            let crc = header.crc;
+            let at = put_start(buf, header, start, end);
+            put_large(buf, at, numbers);
+            verify::add_pdu_crc(buf, at + 8 * count, crc);
+            WriteResult::Written(written)
+        }
+    }
+}
