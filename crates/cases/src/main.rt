@@ -1,5 +1,18 @@
 // Runs every published checksum vector that we know, and document 01's cases; each is printed with where it comes from, its bytes and what they give.
+use fields::EntityId;
+use fields::TransactionSeqNum;
+use fields::UnsignedByteField;
+use header::CrcFlag;
+use header::Direction;
+use header::LargeFileFlag;
+use header::PduHeader;
+use header::PduType;
+use header::SegmentMetadataFlag;
+use header::SegmentationControl;
+use header::TransmissionMode;
 use libc::STDOUT_FILENO;
+use nak::write;
+use nak::write::WriteResult;
 
 const N: [u8; 24] = [
     0x28,
@@ -115,7 +128,107 @@ fn readings() {
     reading(&n[..20]);
 }
 
+// A header of widths 1, with the identifiers and the number of N.
+fn header(file: LargeFileFlag) -> PduHeader {
+    PduHeader {
+        kind: PduType::FileDirective,
+        direction: Direction::TowardsReceiver,
+        mode: TransmissionMode::Acknowledged,
+        crc: CrcFlag::NoCrc,
+        file,
+        length: 0,
+        control: SegmentationControl::NoRecordBoundaryPreservation,
+        metadata: SegmentMetadataFlag::NotPresent,
+        source: EntityId(UnsignedByteField { width: 1, value: 1 }),
+        sequence: TransactionSeqNum(UnsignedByteField { width: 1, value: 2 }),
+        destination: EntityId(UnsignedByteField { width: 1, value: 3 }),
+    }
+}
+
+fn writing(case: &[u8], result: WriteResult) {
+    io::write_all(STDOUT_FILENO, b"document 01, writing: ");
+    io::write_all(STDOUT_FILENO, case);
+    io::write_all(STDOUT_FILENO, b" -> ");
+    match result {
+        WriteResult::Refused(refusal) => {
+            listing::print_refusal(refusal);
+        }
+        WriteResult::Written(written) => {
+            let header = written.header;
+            io::write_all(STDOUT_FILENO, b"written ");
+            io::print_decimal(STDOUT_FILENO, written.length as u64);
+            io::write_all(STDOUT_FILENO, b", length ");
+            io::print_decimal(STDOUT_FILENO, header.length as u64);
+            io::write_all(STDOUT_FILENO, b"\n");
+        }
+    }
+}
+
+fn normal_lists() {
+    let numbers = [7u32; 16600];
+    let mut buf = [0u8; 65543];
+    let mut short = [0u8; 23];
+    let h = header(LargeFileFlag::Normal);
+    writing(
+        b"8,190 normal pairs",
+        write::write_normal_file_size(h, 0, 1000, &numbers[..16380], &mut buf),
+    );
+    writing(
+        b"8,191 normal pairs",
+        write::write_normal_file_size(h, 0, 1000, &numbers[..16382], &mut buf),
+    );
+    writing(
+        b"8,300 normal pairs",
+        write::write_normal_file_size(h, 0, 1000, &numbers, &mut buf),
+    );
+    writing(
+        b"three numbers",
+        write::write_normal_file_size(h, 0, 1000, &numbers[..3], &mut buf),
+    );
+    writing(
+        b"scope end 4,294,967,295",
+        write::write_normal_file_size(h, 0, 4294967295, &numbers[..2], &mut buf),
+    );
+    writing(
+        b"scope end 4,294,967,296",
+        write::write_normal_file_size(h, 0, 4294967296, &numbers[..2], &mut buf),
+    );
+    writing(
+        b"N into 23 bytes",
+        write::write_normal_file_size(h, 0, 1000, &numbers[..2], &mut short),
+    );
+}
+
+fn large_lists() {
+    let numbers = [7u64; 8190];
+    let mut buf = [0u8; 65535];
+    let h = header(LargeFileFlag::Normal);
+    writing(
+        b"4,094 large pairs",
+        write::write_large_file_size(h, 0, 1000, &numbers[..8188], &mut buf),
+    );
+    writing(
+        b"4,095 large pairs",
+        write::write_large_file_size(h, 0, 1000, &numbers, &mut buf),
+    );
+}
+
+// What is written is N, byte for byte, and reads back.
+fn writes_n() {
+    let numbers = [100u32, 200u32];
+    let mut buf = [0u8; 26];
+    let h = header(LargeFileFlag::Large);
+    writing(
+        b"N",
+        write::write_normal_file_size(h, 0, 1000, &numbers, &mut buf),
+    );
+    reading(&buf);
+}
+
 fn main() {
     checksums();
     readings();
+    normal_lists();
+    large_lists();
+    writes_n();
 }

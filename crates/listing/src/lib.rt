@@ -1,5 +1,6 @@
 // Prints a NAK, or why it is refused, in document 01's words. What is printed is tested and not proved.
 ghost use mathlib.Core.Path.{_≡_};
+ghost use Rattle.fields.specs.Refusal.{numbersOf};
 ghost use Rattle.fields.specs.Staged.{run};
 ghost use Rattle.nak.specs.Reading.{readingNak};
 ghost use Rattle.listing.specs.Listing.{isAccepted};
@@ -28,11 +29,15 @@ fn print_number(n: u64) {
     io::print_decimal(STDOUT_FILENO, n);
 }
 
-fn print_refusal(refusal: Refusal) {
+// Prints a refusal's number and values; its number.
+pub fn print_refusal(refusal: Refusal) -> u8
+    ensures { λ r. ⌜ r ≡ numbersOf refusal .number ⌝ }
+{
     let numbers = refusal.numbers();
     io::write_all(STDOUT_FILENO, b"refused");
     print_number(numbers.number as u64);
     print_line(b"", numbers.count, numbers.first, numbers.second);
+    numbers.number
 }
 
 fn print_request(area: &[u8], file: LargeFileFlag, cursor: RequestCursor) -> RequestCursor {

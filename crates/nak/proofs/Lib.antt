@@ -3,5 +3,6 @@ pub mod Codes
 pub mod Reading
 pub mod Walking
 pub mod Writing
+pub mod Counting
 pub mod Cases
 pub mod Demands

@@ -4,5 +4,6 @@ pub mod Nak
 pub mod Reading
 pub mod Requests
 pub mod Writing
+pub mod Counting
 pub mod Cases
 pub mod Demands

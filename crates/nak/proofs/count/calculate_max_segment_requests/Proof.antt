@@ -1,0 +1,82 @@
+-- `nak::count::calculate_max_segment_requests` meets its contract: each exit's answer is the rule's.
+-- Assumes nothing.
+use Prim.Native.Nat.{ℕ, _*_}
+use mathlib.Core.Path.{sym, ap, _∙_}
+use Rattle.header.specs.Answers.{headerAnswer}
+use Rattle.header.proofs.Judging.{passed-tests}
+use Rattle.nak.proofs.Counting.{least-is, refused-count, too-small, counted}
+use borrow.Author.Needs.{needs}
+use Rattle.nak.proofs.count.calculate_max_segment_requests.Statement.{statement}
+use Rattle.nak.proofs.count.calculate_max_segment_requests.Tie as tie
+
+judged-requires : tie.Need-judged-requires
+judged-requires c κs = search needs
+
+enum-known-judged : tie.Need-enum-known-judged
+enum-known-judged c = search needs
+
+enum-told : tie.Need-enum-told
+enum-told c = search needs
+
+offset-width-requires : tie.Need-offset-width-requires
+offset-width-requires c κs = search needs
+
+mul-pair : tie.Need-mul-pair
+mul-pair c = search needs
+
+header-len-requires : tie.Need-header-len-requires
+header-len-requires c κs = search needs
+
+add-least : tie.Need-add-least
+add-least c = search needs
+
+add-least-2 : tie.Need-add-least-2
+add-least-2 c = search needs
+
+bit-requires : tie.Need-bit-requires
+bit-requires c κs = search needs
+
+cast-least : tie.Need-cast-least
+cast-least c = search needs
+
+mul-least : tie.Need-mul-least
+mul-least c = search needs
+
+add-least-3 : tie.Need-add-least-3
+add-least-3 c = search needs
+
+returns : tie.Need-returns
+returns c =
+    too-small _ _ (passed-tests _ _ (ap headerAnswer (sym (c .before .before .before .before .enum-told .given .1)) ∙ c .before .before .before .before .before .before .judged .ensures)) _ (least-is _ _ _ _ (c .before .before .header-len .ensures .0) (c .before .before .before .offset-width .ensures .0) (c .before .bit .ensures .0)) (c .if1 .taken)
+
+div-t11 : tie.Need-div-t11
+div-t11 c = search needs
+
+returns-2 : tie.Need-returns-2
+returns-2 c =
+    refused-count _ _ _ (ap headerAnswer (sym (c .before .judged2 .given .1)) ∙ c .before .before .before .judged .ensures)
+
+returns-3 : tie.Need-returns-3
+returns-3 c =
+    counted _ _ (passed-tests _ _ (ap headerAnswer (sym (c .before .before .before .before .enum-told .given .1)) ∙ c .before .before .before .before .before .before .judged .ensures)) _ (least-is _ _ _ _ (c .before .before .header-len .ensures .0) (c .before .before .before .offset-width .ensures .0) (c .before .bit .ensures .0)) _ (ap (λ (n : ℕ). 2 * n) (c .before .before .before .offset-width .ensures .0)) (c .if1 .left)
+
+pub calculate-max-segment-requests-spec : {M : Type 1} → statement M
+calculate-max-segment-requests-spec =
+    tie.close
+    (tie.spec
+    judged-requires
+    enum-known-judged
+    enum-told
+    offset-width-requires
+    mul-pair
+    header-len-requires
+    add-least
+    add-least-2
+    bit-requires
+    cast-least
+    mul-least
+    add-least-3
+    returns
+    div-t11
+    returns-2
+    returns-3)
