@@ -128,7 +128,7 @@ pub record ToWrite (file : LargeFileFlag) (h : PduHeader) (start end count room 
   pub length-is : w .length ≡ pduLength (w .header)
   pub good : Passed (recordTests (w .header))
   pub flag : w .header .file ≡ file
-  pub scope : scopeFits file start end ≡ true
+  pub scope : scopeFits (w .header .file) start end ≡ true
   pub even : count ≡ 2 * (count / 2)
   pub fewer : count / 2 ≤ mostPairs file
   pub room-is : w .length ≤ room
@@ -217,12 +217,13 @@ module _ (file : LargeFileFlag) (h : PduHeader) (start end count room : ℕ) (w 
       let is : w .header ≡ F = ap (λ (x : NakWritten). x .header) (p .1) in
       let long : w .length ≡ pduLength F = ap (λ (x : NakWritten). x .length) (p .1) in
       let even : count ≡ 2 * (count / 2) = omega (arith, eqb-true (count % 2) 0 (not-false (eqb (count % 2) 0) (u .0)), div-add-mod' count 2) in
+      let flag : w .header .file ≡ file = ap (λ (x : PduHeader). x .file) is ∙ filled-flag file (count / 2) h in
       record {
         header-is = is;
         length-is = long ∙ sym (ap pduLength is);
         good = rw is (filled-good file (count / 2) h g);
-        flag = ap (λ (x : PduHeader). x .file) is ∙ filled-flag file (count / 2) h;
-        scope = not-false _ (u .1 .0);
+        flag = flag;
+        scope = ap (λ (f : LargeFileFlag). scopeFits f start end) flag ∙ not-false _ (u .1 .0);
         even = even;
         fewer = ltb-false _ _ (u .1 .1 .0);
         room-is = rw long (ltb-false _ _ (r .0));

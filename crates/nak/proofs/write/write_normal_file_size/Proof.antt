@@ -2,7 +2,7 @@
 -- Assumes nothing.
 use mathlib.Core.Path.{refl, sym, ap, _∙_}
 use native.Mathlib.Omega.{arith}
-use Rattle.nak.specs.Writing.{writeAnswer, scopeFits}
+use Rattle.nak.specs.Writing.{writeAnswer}
 use Rattle.nak.proofs.Writing.{ToWrite, to-write, start-room, numbers-room, nothing-written, nak-written}
 use borrow.Author.Needs.{needs}
 use Rattle.nak.proofs.write.write_normal_file_size.Statement.{statement}
@@ -20,7 +20,7 @@ enum-known-answer-2 c = search needs
 put-start-requires : tie.Need-put-start-requires
 put-start-requires c κs =
     let z = to-write _ _ _ _ _ _ _ (ap writeAnswer (sym (c .before .before .before .answer2 .given .1)) ∙ c .before .before .before .before .before .writable .ensures) in
-    (z .good, start-room _ _ _ _ _ _ _ z, ap (λ f. scopeFits f (c .before .before .before .before .before .before .before .before .args .start) (c .before .before .before .before .before .before .before .before .args .end)) (z .flag) ∙ z .scope)
+    (z .good, start-room _ _ _ _ _ _ _ z, z .scope)
 
 put-normal-requires : tie.Need-put-normal-requires
 put-normal-requires c κs =
