@@ -3,6 +3,7 @@ pub mod Codes
 pub mod Reading
 pub mod Walking
 pub mod Writing
+pub mod Reserving
 pub mod Counting
 pub mod Cases
 pub mod Demands

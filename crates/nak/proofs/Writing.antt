@@ -16,7 +16,7 @@ use Rattle.fields.specs.BigEndian.{beBytes, bePut}
 use Rattle.fields.specs.Answer.{Answer, accepted, told, firstOf, leaves, Test}
 use Rattle.fields.proofs.Width.{fits-lt}
 use Rattle.fields.proofs.BigEndian.{be-length, put-sets, sets-append, then-sets}
-use Rattle.fields.proofs.Judging.{Passed, passed, passed-first, passed-last, passed-on, refused-on, told-leaves, same-accepted}
+use Rattle.fields.proofs.Judging.{Passed, passed, passed-first, passed-last, passed-on, refused-on, told-leaves}
 use Rattle.header.specs.declared.PduHeader.{PduHeader}
 use Rattle.header.specs.declared.flags.Direction.the-variants.{TowardsSender}
 use Rattle.header.specs.declared.flags.CrcFlag.{CrcFlag}
@@ -194,11 +194,11 @@ filled-whole : (file : LargeFileFlag) (h : PduHeader) (count : ℕ) → count �
 unfolding areaStart filled dataLength
 filled-whole file h count e = omega (arith, pdu-sum (filled file (count / 2) h), doubled file count e)
 
-filled-good : (file : LargeFileFlag) (n : ℕ) (h : PduHeader) → Passed (recordTests h) → Passed (recordTests (filled file n h))
+pub filled-good : (file : LargeFileFlag) (n : ℕ) (h : PduHeader) → Passed (recordTests h) → Passed (recordTests (filled file n h))
 unfolding filled
 filled-good file n h p = rw (with-tests TowardsSender file (dataLength file (h .crc) n) h) p
 
-filled-flag : (file : LargeFileFlag) (n : ℕ) (h : PduHeader) → filled file n h .file ≡ file
+pub filled-flag : (file : LargeFileFlag) (n : ℕ) (h : PduHeader) → filled file n h .file ≡ file
 unfolding filled
 filled-flag file n h = refl
 
@@ -237,7 +237,7 @@ start-room file h start end count room w z = omega (arith, z .whole, z .room-is,
 pub numbers-room : (file : LargeFileFlag) (h : PduHeader) (start end count room : ℕ) (w : NakWritten) → ToWrite file h start end count room w → areaStart (w .header) + offsetWidth file * count ≤ room
 numbers-room file h start end count room w z = omega (arith, z .whole, z .room-is, z .length-is)
 
-start-length : (h : PduHeader) (start end : ℕ) → length (startBytes h start end) ≡ areaStart h
+pub start-length : (h : PduHeader) (start end : ℕ) → length (startBytes h start end) ≡ areaStart h
 unfolding startBytes areaStart
 start-length h start end = simp (length-append, be-length, header-length) (omega arith)
 
@@ -248,35 +248,39 @@ pub nothing-written : (file : LargeFileFlag) (h : PduHeader) (start end : ℕ) (
 unfolding nakMemory
 nothing-written file h start end numbers s ns e = (e, told-leaves ns _ _ s e)
 
+-- a NAK that lacks only its checksum: start and request area stand in the buffer, and the checksum goes behind them
+pub sealed : (k : PduHeader) (start end n : ℕ) (area s b₁ b₂ : List ℕ) → n ≡ areaStart k + length area → n + 2 * crcBit (k .crc) ≤ length s
+    → b₁ ≡ sets s 0 (startBytes k start end ++ area) → b₂ ≡ crcAdded (k .crc) n b₁ → b₂ ≡ nakOver k start end area ++ drop (length (nakOver k start end area)) s
+unfolding nakOver
+sealed k start end n area s b₁ b₂ pn fit e₁ e₂ =
+    let A = startBytes k start end in
+    let X = A ++ area in
+    let C = checksumBytes (k .crc) X in
+    let lX : length X ≡ n = simp (length-append, start-length) (sym pn) in
+    let lC : length C ≡ 2 * crcBit (k .crc) = checksum-length (k .crc) X in
+    let l₁ : length b₁ ≡ length s = ap length e₁ ∙ length-sets s 0 X in
+    let t₁ : take n b₁ ≡ X = ap (take n) (e₁ ∙ sets-eq X s 0 (omega arith)) ∙ take-at X (drop (0 + length X) s) n lX in
+    let p : b₂ ≡ sets s 0 (X ++ C) = then-sets X C s n lX e₁ (e₂ ∙ added-sets (k .crc) n b₁ (omega arith) ∙ ap (λ (x : List ℕ). sets b₁ n (checksumBytes (k .crc) x)) t₁) in
+    let lXC : length (X ++ C) ≤ length s = omega (arith, length-append X C) in
+    p ∙ sets-eq (X ++ C) s 0 (omega arith) ∙ ap (λ (j : ℕ). (X ++ C) ++ drop j s) (zero-add (length (X ++ C)))
+
 module _ (file : LargeFileFlag) (h : PduHeader) (start end : ℕ) (numbers s : List ℕ) (w : NakWritten)
     (e : accepted w ≡ writingNak file h start end (length numbers) (length s)) where
   pub nak-written : (u n : ℕ) (b₁ b₂ b₃ : List ℕ) → u ≡ offsetWidth file → n ≡ areaStart (w .header)
       → b₁ ≡ sets s 0 (startBytes (w .header) start end) → b₂ ≡ sets b₁ n (numbersBytes u numbers) → b₃ ≡ crcAdded (w .header .crc) (n + u * length numbers) b₂
       → (accepted w ≡ writingNak file h start end (length numbers) (length s)) × (b₃ ≡ nakMemory file h start end numbers s)
-  unfolding nakMemory nakBytes nakOver
+  unfolding nakMemory nakBytes
   nak-written u n b₁ b₂ b₃ pu pn e₁ e₂ e₃ =
       let z = to-write file h start end (length numbers) (length s) w e in
       let k = w .header in
-      let m = n + u * length numbers in
+      let pw : u ≡ offsetWidth (k .file) = pu ∙ sym (ap offsetWidth (z .flag)) in
       let A = startBytes k start end in
-      let B = numbersBytes u numbers in
-      let X = A ++ B in
-      let C = checksumBytes (k .crc) X in
+      let B = numbersBytes (offsetWidth (k .file)) numbers in
       let lA : length A ≡ n = start-length k start end ∙ sym pn in
-      let lX : length X ≡ m = simp (length-append, numbers-length, lA) in
-      let lC : length C ≡ 2 * crcBit (k .crc) = checksum-length (k .crc) X in
-      let fit : m + 2 * crcBit (k .crc) ≤ length s = omega (arith, rw (← pu, ← pn) at (z .whole), z .room-is, z .length-is) in
-      let p₂ : b₂ ≡ sets s 0 X = then-sets A B s n lA e₁ e₂ in
-      let l₂ : length b₂ ≡ length s = ap length p₂ ∙ length-sets s 0 X in
-      let t₂ : take m b₂ ≡ X = ap (take m) (p₂ ∙ sets-eq X s 0 (omega arith)) ∙ take-at X (drop (0 + length X) s) m lX in
-      let p₃ : b₃ ≡ sets s 0 (X ++ C) = then-sets X C s m lX p₂ (e₃ ∙ added-sets (k .crc) m b₂ (omega arith) ∙ ap (λ (x : List ℕ). sets b₂ m (checksumBytes (k .crc) x)) t₂) in
-      let lXC : length (X ++ C) ≤ length s = omega (arith, length-append X C) in
-      let p₄ : b₃ ≡ (X ++ C) ++ drop (length (X ++ C)) s = p₃ ∙ sets-eq (X ++ C) s 0 (omega arith) ∙ ap (λ (j : ℕ). (X ++ C) ++ drop j s) (zero-add (length (X ++ C))) in
-      let pw : offsetWidth (k .file) ≡ u = ap offsetWidth (z .flag) ∙ sym pu in
-      (e, p₄ ∙ ap (λ (v : ℕ). nakIs v ++ drop (length (nakIs v)) s) (sym pw) ∙ ap (λ (o : Answer NakWritten). leaves o (λ (x : NakWritten). nakBytes (x .header) start end numbers) s) e)
-    where
-      nakIs : ℕ → List ℕ
-      nakIs v = startBytes (w .header) start end ++ numbersBytes v numbers ++ checksumBytes (w .header .crc) (startBytes (w .header) start end ++ numbersBytes v numbers)
+      let lB : length B ≡ u * length numbers = numbers-length _ numbers ∙ ap (λ (x : ℕ). x * length numbers) (sym pw) in
+      let fit : n + u * length numbers + 2 * crcBit (k .crc) ≤ length s = omega (arith, rw (← pu, ← pn) at (z .whole), z .room-is, z .length-is) in
+      let p₂ : b₂ ≡ sets s 0 (A ++ B) = then-sets A B s n lA e₁ (e₂ ∙ ap (λ (x : ℕ). sets b₁ n (numbersBytes x numbers)) pw) in
+      (e, sealed k start end (n + u * length numbers) B s b₂ b₃ (omega arith) fit p₂ e₃ ∙ ap (λ (o : Answer NakWritten). leaves o (λ (x : NakWritten). nakBytes (x .header) start end numbers) s) e)
 
 -- with no list nothing stands between the scope and the checksum
 pub none-written : (file : LargeFileFlag) (h : PduHeader) (start end : ℕ) (s : List ℕ) (w : NakWritten) (n : ℕ) (b₁ b₃ : List ℕ) → accepted w ≡ writingNak file h start end 0 (length s)

@@ -4,6 +4,7 @@ pub mod Nak
 pub mod Reading
 pub mod Requests
 pub mod Writing
+pub mod Reserving
 pub mod Counting
 pub mod Cases
 pub mod Demands

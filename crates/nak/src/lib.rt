@@ -10,6 +10,7 @@ pub mod count;
 pub mod directive;
 pub mod read;
 pub mod requests;
+pub mod reserve;
 pub mod write;
 
 // A NAK that was read: its header, its scope, and where its requests lie in the bytes that it was read from.

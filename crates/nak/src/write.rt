@@ -36,7 +36,7 @@ pub enum WriteResult {
 }
 
 // The pairs that fit a data field of 65,535 bytes, with or without CRC.
-fn most_pairs(file: LargeFileFlag) -> usize
+pub(crate) fn most_pairs(file: LargeFileFlag) -> usize
     ensures { λ r. ⌜ r ≡ mostPairs file ⌝ }
 {
     match file {
@@ -45,7 +45,7 @@ fn most_pairs(file: LargeFileFlag) -> usize
     }
 }
 
-fn scope_fits(file: LargeFileFlag, start: u64, end: u64) -> bool
+pub(crate) fn scope_fits(file: LargeFileFlag, start: u64, end: u64) -> bool
     ensures { λ r. ⌜ r ≡ scopeFits file start end ⌝ }
 {
     let width = offset_width(file);
@@ -67,7 +67,7 @@ fn data_length(file: LargeFileFlag, crc: CrcFlag, pairs: usize) -> u16
 }
 
 // The header that is handed back: direction towards the sender, the file flag of the list, the length of so many pairs.
-fn fill(header: PduHeader, file: LargeFileFlag, pairs: usize) -> PduHeader
+pub(crate) fn fill(header: PduHeader, file: LargeFileFlag, pairs: usize) -> PduHeader
     requires { ⌜ pairs ≤ mostPairs file ⌝ }
     ensures { λ r. ⌜ r ≡ filled file pairs header ⌝ }
 {
@@ -113,7 +113,7 @@ fn judge_nak(
 }
 
 // Room for the whole PDU of a judged header.
-fn with_room(header: PduHeader, room: usize) -> WriteResult
+pub(crate) fn with_room(header: PduHeader, room: usize) -> WriteResult
     ensures { λ r. ⌜ writeAnswer r ≡ intoRoom [] header room ⌝ }
 {
     let length = header.pdu_len();
@@ -144,7 +144,7 @@ fn writable(
 }
 
 // Header, directive and scope, at the front of the buffer; where the requests start.
-fn put_start(buf: &mut [u8], header: PduHeader, start: u64, end: u64) -> usize
+pub(crate) fn put_start(buf: &mut [u8], header: PduHeader, start: u64, end: u64) -> usize
     requires { ⌜ Passed (recordTests header) × (areaStart header ≤ length (now buf)) × (scopeFits (header .file) start end ≡ true) ⌝ }
     ensures { λ r. ⌜ (r ≡ areaStart header) × (now (buf .exit) ≡ sets (now (buf .entry)) 0 (startBytes header start end)) × (length (now (buf .exit)) ≡ length (now (buf .entry))) ⌝ }
 {
@@ -183,6 +183,7 @@ fn put_large(buf: &mut [u8], at: usize, numbers: &[u64])
         i += 1;
     }
 }
+
 // No list: the header's file flag stands.
 pub fn write_no_segment_requests(
     header: PduHeader,
