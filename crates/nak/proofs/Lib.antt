@@ -5,5 +5,6 @@ pub mod Walking
 pub mod Writing
 pub mod Reserving
 pub mod Counting
+pub mod Comparing
 pub mod Cases
 pub mod Demands

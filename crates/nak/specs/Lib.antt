@@ -6,5 +6,6 @@ pub mod Requests
 pub mod Writing
 pub mod Reserving
 pub mod Counting
+pub mod Comparing
 pub mod Cases
 pub mod Demands

@@ -6,6 +6,7 @@ use fields::Refusal;
 use header::LargeFileFlag;
 use header::PduHeader;
 
+pub mod compare;
 pub mod count;
 pub mod directive;
 pub mod read;

@@ -80,7 +80,7 @@ pub(crate) fn fill(header: PduHeader, file: LargeFileFlag, pairs: usize) -> PduH
 }
 
 // The writer's judgement but for the room: the header that is handed back.
-fn judge_nak(
+pub(crate) fn judge_nak(
     header: PduHeader,
     file: LargeFileFlag,
     start: u64,

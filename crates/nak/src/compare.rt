@@ -1,0 +1,188 @@
+// Comparing a buffer with a NAK to be written (the Rust's `NakPduReader == NakPduCreator`): with no list, a list of 32-bit numbers, or a list of 64-bit numbers.
+ghost use mathlib.Core.Path.{_≡_};
+ghost use mathlib.Core.List.{[]};
+ghost use lib.ListN.{length};
+ghost use Rattle.fields.specs.Answer.{accepted};
+ghost use Rattle.nak.specs.Comparing.{compareAnswer, likenessAnswer, sameNak, holdsNumbers, likening, comparing};
+use crate::Nak;
+use crate::NakResult;
+use crate::write;
+use fields::Refusal;
+use fields::be;
+use header::HeaderResult;
+use header::LargeFileFlag;
+use header::PduHeader;
+
+// Whether the buffer holds that NAK, or why that cannot be told.
+pub enum CompareResult {
+    Equal,
+    Different,
+    Refused(Refusal),
+}
+
+// A NAK that was read, and whether its header and scope are those to be written.
+struct Likeness {
+    pub nak: Nak,
+    pub same: bool,
+}
+
+// A likeness, or why there is none.
+enum LikenessResult {
+    Likeness(Likeness),
+    Refused(Refusal),
+}
+
+fn same_nak(nak: Nak, header: PduHeader, start: u64, end: u64) -> bool
+    ensures { λ r. ⌜ r ≡ sameNak nak header start end ⌝ }
+{
+    if !nak.header.eq(header) {
+        return false;
+    }
+    if nak.start != start {
+        return false;
+    }
+    nak.end == end
+}
+
+// What does not look at the list, so that the three functions below share it.
+fn liken(
+    buf: &[u8],
+    header: PduHeader,
+    file: LargeFileFlag,
+    start: u64,
+    end: u64,
+    count: usize,
+) -> LikenessResult
+    ensures { λ r. ⌜ likenessAnswer r ≡ likening file header start end count (now (buf .entry)) ⌝ }
+{
+    let read = Nak::from_bytes(buf);
+    match read {
+        NakResult::Refused(refusal) => LikenessResult::Refused(refusal),
+        NakResult::Nak(nak) => {
+            let judged = write::judge_nak(header, file, start, end, count);
+            match judged {
+                HeaderResult::Refused(refusal) => LikenessResult::Refused(refusal),
+                HeaderResult::Header(header) => {
+                    let same = same_nak(nak, header, start, end);
+                    LikenessResult::Likeness(Likeness { nak, same })
+                }
+            }
+        }
+    }
+}
+
+fn holds_normal(area: &[u8], numbers: &[u32]) -> bool
+    ensures { λ r. ⌜ r ≡ holdsNumbers 4 (now (area .entry)) (now (numbers .entry)) ⌝ }
+{
+    let mut at = 0;
+    let mut i = 0;
+    while i < numbers.len() {
+        if area.len() - at < 4 {
+            return false;
+        }
+        if be::read_be(area, at, 4) != numbers[i] as u64 {
+            return false;
+        }
+        at += 4;
+        i += 1;
+    }
+    at == area.len()
+}
+
+fn holds_large(area: &[u8], numbers: &[u64]) -> bool
+    ensures { λ r. ⌜ r ≡ holdsNumbers 8 (now (area .entry)) (now (numbers .entry)) ⌝ }
+{
+    let mut at = 0;
+    let mut i = 0;
+    while i < numbers.len() {
+        if area.len() - at < 8 {
+            return false;
+        }
+        if be::read_be(area, at, 8) != numbers[i] {
+            return false;
+        }
+        at += 8;
+        i += 1;
+    }
+    at == area.len()
+}
+
+fn verdict(same: bool) -> CompareResult
+    ensures { λ r. ⌜ compareAnswer r ≡ accepted same ⌝ }
+{
+    if same {
+        return CompareResult::Equal;
+    }
+    CompareResult::Different
+}
+
+// No list: the header's file flag stands, and no byte may follow the scope.
+pub fn compare_no_segment_requests(
+    buf: &[u8],
+    header: PduHeader,
+    start: u64,
+    end: u64,
+) -> CompareResult
+    ensures { λ r. ⌜ compareAnswer r ≡ comparing (header .file) header start end [] (now (buf .entry)) ⌝ }
+{
+    let file = header.file;
+    let likeness = liken(buf, header, file, start, end, 0);
+    match likeness {
+        LikenessResult::Refused(refusal) => CompareResult::Refused(refusal),
+        LikenessResult::Likeness(likeness) => {
+            if !likeness.same {
+                return CompareResult::Different;
+            }
+            verdict(likeness.nak.request_area(buf).len() == 0)
+        }
+    }
+}
+
+pub fn compare_normal_file_size(
+    buf: &[u8],
+    header: PduHeader,
+    start: u64,
+    end: u64,
+    numbers: &[u32],
+) -> CompareResult
+    ensures { λ r. ⌜ compareAnswer r ≡ comparing LargeFileFlag.Normal header start end (now (numbers .entry)) (now (buf .entry)) ⌝ }
+{
+    let likeness = liken(
+        buf,
+        header,
+        LargeFileFlag::Normal,
+        start,
+        end,
+        numbers.len(),
+    );
+    match likeness {
+        LikenessResult::Refused(refusal) => CompareResult::Refused(refusal),
+        LikenessResult::Likeness(likeness) => {
+            if !likeness.same {
+                return CompareResult::Different;
+            }
+            verdict(holds_normal(likeness.nak.request_area(buf), numbers))
+        }
+    }
+}
+
+pub fn compare_large_file_size(
+    buf: &[u8],
+    header: PduHeader,
+    start: u64,
+    end: u64,
+    numbers: &[u64],
+) -> CompareResult
+    ensures { λ r. ⌜ compareAnswer r ≡ comparing LargeFileFlag.Large header start end (now (numbers .entry)) (now (buf .entry)) ⌝ }
+{
+    let likeness = liken(buf, header, LargeFileFlag::Large, start, end, numbers.len());
+    match likeness {
+        LikenessResult::Refused(refusal) => CompareResult::Refused(refusal),
+        LikenessResult::Likeness(likeness) => {
+            if !likeness.same {
+                return CompareResult::Different;
+            }
+            verdict(holds_large(likeness.nak.request_area(buf), numbers))
+        }
+    }
+}
