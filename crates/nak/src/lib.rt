@@ -8,6 +8,7 @@ use header::PduHeader;
 
 pub mod count;
 pub mod directive;
+pub mod iter;
 pub mod read;
 pub mod requests;
 pub mod write;
