@@ -2,7 +2,7 @@
 pub mod Codes
 pub mod Reading
 pub mod Walking
-pub mod Flag
+mod Held
 pub mod Writing
 pub mod Counting
 pub mod Cases

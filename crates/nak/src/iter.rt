@@ -1,4 +1,5 @@
-// The thin reader of segment requests (the Rust's `SegmentRequestIter`): the request area, lent, and a cursor in it. It only puts `RequestCursor` and its bytes together; the work is the cursor's.
+// The thin reader of segment requests (the Rust's `SegmentRequestIter`): the request area, lent, and a cursor in it.
+// Nothing is tested or computed here: a function over a struct that holds a reference is proved by hand, so the work is left to `request_area` and `RequestCursor`.
 ghost use mathlib.Core.Path.{_≡_};
 ghost use Rattle.nak.specs.Requests.{areaOf, nextRequest};
 use crate::Nak;

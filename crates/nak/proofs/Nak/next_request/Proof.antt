@@ -1,4 +1,4 @@
--- `nak::Nak::next_request` meets its contract: a walk of its MIR, by hand. The struct that one call returns is held in a local and passed to the next, twice. All that the proof knows of `segment_request_iter`, `moved` and `next` is that each meets its contract.
+-- `nak::Nak::next_request` meets its contract: walked by hand, each of its three calls passes a struct on to the next, and their three promises together are its own.
 -- Assumes nothing.
 use mathlib.Core.Path.{_≡_, refl, _∙_}
 use Prim.Native.Nat.{ℕ}
@@ -13,7 +13,6 @@ use prog.Memory.{Memory}
 use prog.Routine.{Routine}
 use prog.Wp.{Heap, Calls, Loops, WpFn, Tables}
 use ghost.Atoms.{Atoms, sem}
-use contract.Lifetimes.{Lfts}
 use contract.Monad.{Fun, fact}
 use contract.Running.{givenOf, tables, tablesOf}
 use types.Kit.{Given, ‵, raw, _⊛_, ⋆, some, later, _$_, _∵_, !, qed, by, move, drop, use1, use2, split, join, pick, fsplit, fjoin, suffices, frame, await, done}
@@ -23,7 +22,7 @@ use denote.RattleType.{RattleType, owns}
 use denote.Laws.{Is, shows}
 use denote.Builtin.{u8}
 use denote.Ref.{RefT, NamedLft, now}
-use denote.Signature.{plain, namedLft}
+use denote.Signature.{plain}
 use denote.Slice.{sliceVal, ShrSlice, slice-vals, shr-slice-tells, shr-slice-lawful, shr-slice-copy}
 use denote.Steps.{owned, peeks, heard, nothing}
 use denote.Enum.Laws as EL
@@ -41,6 +40,7 @@ use Rattle.nak.specs.declared.Nak.{Nak}
 use Rattle.nak.specs.declared.iter.SegmentRequestIter.{SegmentRequestIter}
 use Rattle.nak.specs.declared.requests.NextRequest.{NextRequest}
 use Rattle.nak.specs.declared.requests.RequestCursor.{RequestCursor}
+use Rattle.nak.proofs.Held.{B}
 use Rattle.nak.proofs.iter.SegmentRequestIter as T
 use Rattle.nak.proofs.iter.SegmentRequestIter.Laws as T′
 use Rattle.nak.proofs.requests.NextRequest as S
@@ -65,10 +65,6 @@ use Rattle.nak.proofs.Nak.next_request.Key.{name as #nak·next-request}
 use Rattle.nak.proofs.Nak.next_request as req
 use Rattle.nak.proofs.Nak.next_request.Statement as stated
 use Rattle.nak.proofs.Nak.next_request.Code as code
-
--- the struct's type, over the signature's lifetimes
-abbrev B : Lfts 1 → RattleType
-B κs = T.the-row (namedLft 1 0 tt κs)
 
 abbrev stayed : Stays (req.ended .signature .params) (req.ended .kept)
 stayed = (stay-none (λ _. N.the-row) yes, (stay-none-slice (0 ∷ []) tt (plain (λ _. u8)) yes, (stay-none (λ _. K.the-row) yes, tt)))

@@ -1,5 +1,5 @@
--- `nak::Nak::segment_request_iter` meets its contract: a walk of its MIR, by hand. `request_area`, which is covered, hands back a part of the buffer, and the struct is made of it in the result's local.
--- The machine value that the call returns is told by the slice's relation: the struct's typing and the exit are shown at that value, and taken to the one returned.
+-- `nak::Nak::segment_request_iter` meets its contract: walked by hand, it makes the struct of the part of the buffer that `request_area` hands back, and of the callee only the contract is known.
+-- The slice's relation tells the machine value that the call returned: typing and exit are shown at the value told, and taken to the one returned.
 -- Assumes nothing.
 use mathlib.Core.Path.{_≡_, refl, ap, sym, subst}
 use Prim.Native.Nat.{ℕ}
@@ -16,7 +16,6 @@ use prog.Memory.{Memory, fieldOf}
 use prog.Routine.{Routine}
 use prog.Wp.{Heap, Calls, Loops, WpFn, Tables}
 use ghost.Atoms.{Atoms, sem}
-use contract.Lifetimes.{Lfts}
 use contract.Monad.{Fun, fact}
 use contract.Running.{givenOf, tables, tablesOf}
 use types.Kit.{Given, ‵, raw, _⊛_, ⋆, some, later, _$_, _∵_, !, qed, by, move, use1, use2, split, join, pick, fsplit, fjoin, suffices, frame, await, done}
@@ -27,11 +26,10 @@ use denote.RattleType.{RattleType, owns}
 use denote.Laws.{Is, shows}
 use denote.Builtin.{u8}
 use denote.Ref.{RefT, now}
-use denote.Signature.{plain, namedLft}
+use denote.Signature.{plain}
 use denote.Slice.{sliceVal, ShrSlice, slice-vals, shr-slice-tells, shr-slice-lawful, shr-slice-copy}
 use denote.Steps.{owned, peeks, heard, nothing}
 use denote.Enum.Laws as EL
-use denote.Struct.Declared.{Declared}
 use denote.Struct.Laws as LL
 use denote.Struct.Rest.{own-shut}
 use denote.Triple.Statement.{Contract, Triple}
@@ -49,8 +47,7 @@ use Rattle.nak.specs.Requests.{areaOf}
 use Rattle.nak.specs.declared.Nak.{Nak}
 use Rattle.nak.specs.declared.iter.SegmentRequestIter.{SegmentRequestIter}
 use Rattle.nak.specs.declared.requests.RequestCursor.{RequestCursor}
-use Rattle.nak.proofs.Flag.{flag, flag-is}
-use Rattle.nak.proofs.iter.SegmentRequestIter as T
+use Rattle.nak.proofs.Held.{D, L, flag, flag-is}
 use Rattle.nak.proofs.iter.SegmentRequestIter.Laws as T′
 use Rattle.nak.proofs.requests.RequestCursor as K
 use Rattle.nak.proofs.requests.RequestCursor.Laws as K′
@@ -64,13 +61,6 @@ use Rattle.nak.proofs.Nak.segment_request_iter.Key.{name as #nak·segme
 use Rattle.nak.proofs.Nak.segment_request_iter as made
 use Rattle.nak.proofs.Nak.segment_request_iter.Statement as stated
 use Rattle.nak.proofs.Nak.segment_request_iter.Code as code
-
--- the struct's type and laws, over the signature's lifetimes
-abbrev D : Lfts 1 → Declared
-D κs = T.the-type (namedLft 1 0 tt κs)
-
-abbrev L : (κs : Lfts 1) → LL.Laws (D κs)
-L κs = T′.the-laws (namedLft 1 0 tt κs)
 
 abbrev stayed : Stays (made.ended .signature .params) (made.ended .kept)
 stayed = (stay-none (λ _. N.the-row) yes, (stay-none-slice (0 ∷ []) tt (plain (λ _. u8)) yes, tt))

@@ -1,5 +1,5 @@
--- `nak::iter::SegmentRequestIter::moved` meets its contract: a walk of its MIR, by hand. A struct is made anew of the slice and the flag that the one passed holds, and of another cursor.
--- The struct is Copy: what it owns is had twice, one copy is kept whole for the exit, and the other, with the facts of the cursor in the place of the old one's, is what the result owns.
+-- `nak::iter::SegmentRequestIter::moved` meets its contract: walked by hand, it makes a struct of the slice and the flag that the one passed holds, and of another cursor.
+-- The struct is Copy: of what it owns, had twice, one copy is kept for the exit, and the other, with the new cursor's facts in the place of the old one's, is what the result owns.
 -- Assumes nothing.
 use mathlib.Core.Path.{refl}
 use mathlib.Core.List.{[], _∷_}
@@ -13,18 +13,16 @@ use prog.Memory.{Memory}
 use prog.Routine.{Routine}
 use prog.Wp.{Heap, Calls, Loops, WpFn, Tables}
 use ghost.Atoms.{Atoms}
-use contract.Lifetimes.{Lfts}
 use contract.Monad.{Fun}
 use contract.Running.{givenOf, tables, tablesOf}
 use types.Kit.{Given, ‵, _⊛_, _$_, _∵_, !, qed, by, move, use1, split, fsplit, fjoin, suffices, frame}
 use types.Part.{whole, sub, look-in, agg}
 use types.Run.{look, init, forget, stop, fld, from, load, of-opd, and-then, no-more, assigns, returns, enter, alloc1, alloc0, params1, pass1, pass0, free1, free0}
 use sound.WpLaws.{WpFn-mono}
-use denote.RattleType.{RattleType, owns}
+use denote.RattleType.{owns}
 use denote.Laws.{Is}
 use denote.Signature.{namedLft}
 use denote.Steps.{owned}
-use denote.Struct.Declared.{Declared}
 use denote.Struct.Laws as LL
 use denote.Struct.Rest.{own-put}
 use denote.Triple.Entry.{Vals, onEntry}
@@ -34,8 +32,7 @@ use denote.Triple.Walked.{says, Stays, stay-none, walkOf, goes-none, Walks, ends
 use denote.Exit.{yes}
 use Rattle.nak.specs.declared.iter.SegmentRequestIter.{SegmentRequestIter}
 use Rattle.nak.specs.declared.requests.RequestCursor.{RequestCursor}
-use Rattle.nak.proofs.Flag.{flag-typed}
-use Rattle.nak.proofs.iter.SegmentRequestIter as T
+use Rattle.nak.proofs.Held.{B, D, L, flag-typed}
 use Rattle.nak.proofs.iter.SegmentRequestIter.Laws as T′
 use Rattle.nak.proofs.requests.RequestCursor as K
 use Rattle.nak.proofs.requests.RequestCursor.Laws as K′
@@ -43,16 +40,6 @@ use Rattle.nak.proofs.iter.SegmentRequestIter.moved.Key.{name as #nak·
 use Rattle.nak.proofs.iter.SegmentRequestIter.moved as moved
 use Rattle.nak.proofs.iter.SegmentRequestIter.moved.Statement as stated
 use Rattle.nak.proofs.iter.SegmentRequestIter.moved.Code as code
-
--- the struct's type and laws, over the signature's lifetimes
-abbrev D : Lfts 1 → Declared
-D κs = T.the-type (namedLft 1 0 tt κs)
-
-abbrev L : (κs : Lfts 1) → LL.Laws (D κs)
-L κs = T′.the-laws (namedLft 1 0 tt κs)
-
-abbrev B : Lfts 1 → RattleType
-B κs = T.the-row (namedLft 1 0 tt κs)
 
 abbrev stayed : Stays (moved.ended .signature .params) (moved.ended .kept)
 stayed = (stay-none B yes, (stay-none (λ _. K.the-row) yes, tt))

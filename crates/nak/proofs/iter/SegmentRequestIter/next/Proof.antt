@@ -1,5 +1,5 @@
--- `nak::iter::SegmentRequestIter::next` meets its contract: a walk of its MIR, by hand. The struct is taken apart, and `RequestCursor::next` is called on its fields. All that the proof knows of the callee is that it meets its contract.
--- The struct is Copy: what it owns is had twice, one copy is kept whole for the exit, and what the fields of the other own is what the callee asks, beside the lifetime's token, which comes back.
+-- `nak::iter::SegmentRequestIter::next` meets its contract: walked by hand, it calls `RequestCursor::next` on the struct's fields, and of the callee only the contract is known.
+-- The struct is Copy: of what it owns, had twice, one copy is kept for the exit, and what the fields of the other own is what the callee asks.
 -- Assumes nothing.
 use mathlib.Core.Path.{_≡_, refl}
 use mathlib.Core.List.{[], _∷_}
@@ -14,14 +14,13 @@ use prog.Memory.{Memory}
 use prog.Routine.{Routine}
 use prog.Wp.{Heap, Calls, Loops, WpFn, Tables}
 use ghost.Atoms.{Atoms, sem}
-use contract.Lifetimes.{Lfts}
 use contract.Monad.{Fun, fact}
 use contract.Running.{givenOf, tables, tablesOf}
 use types.Kit.{Given, ‵, raw, _⊛_, given, ⋆, some, later, _$_, _∵_, !, qed, by, move, drop, use1, use2, split, join, learn, pick, fsplit, fjoin, suffices, frame, await, done}
 use types.Part.{whole, sub, look-in}
 use types.Run.{look, init, forget, stop, fld, from, load, of-opd, and-then, no-more, assigns, land, returns, enter, alloc1, alloc0, params1, pass1, pass0, free1, free0}
 use sound.WpLaws.{FmC, fmOf, WpFn-mono}
-use denote.RattleType.{RattleType, owns}
+use denote.RattleType.{owns}
 use denote.Laws.{Is, shows}
 use denote.Builtin.{u8}
 use denote.Ref.{now}
@@ -29,7 +28,6 @@ use denote.Signature.{namedLft}
 use denote.Slice.{sliceVal, ShrSlice}
 use denote.Steps.{peeks, heard, nothing}
 use denote.Enum.Laws as EL
-use denote.Struct.Declared.{Declared}
 use denote.Struct.Laws as LL
 use denote.Struct.Rest.{all-own, own-open}
 use denote.Struct.Values.{Values}
@@ -45,8 +43,7 @@ use Rattle.header.proofs.flags.LargeFileFlag as F
 use Rattle.nak.specs.Requests.{nextRequest}
 use Rattle.nak.specs.declared.iter.SegmentRequestIter.{SegmentRequestIter}
 use Rattle.nak.specs.declared.requests.NextRequest.{NextRequest}
-use Rattle.nak.proofs.Flag.{flag, flag-typed}
-use Rattle.nak.proofs.iter.SegmentRequestIter as T
+use Rattle.nak.proofs.Held.{B, D, L, flag, flag-typed}
 use Rattle.nak.proofs.iter.SegmentRequestIter.Laws as T′
 use Rattle.nak.proofs.requests.NextRequest as S
 use Rattle.nak.proofs.requests.NextRequest.Laws as S′
@@ -60,16 +57,6 @@ use Rattle.nak.proofs.iter.SegmentRequestIter.next.Key.{name as #nak·n
 use Rattle.nak.proofs.iter.SegmentRequestIter.next as next
 use Rattle.nak.proofs.iter.SegmentRequestIter.next.Statement as stated
 use Rattle.nak.proofs.iter.SegmentRequestIter.next.Code as code
-
--- the struct's type and laws, over the signature's lifetimes
-abbrev D : Lfts 1 → Declared
-D κs = T.the-type (namedLft 1 0 tt κs)
-
-abbrev L : (κs : Lfts 1) → LL.Laws (D κs)
-L κs = T′.the-laws (namedLft 1 0 tt κs)
-
-abbrev B : Lfts 1 → RattleType
-B κs = T.the-row (namedLft 1 0 tt κs)
 
 abbrev stayed : Stays (next.ended .signature .params) (next.ended .kept)
 stayed = (stay-none B yes, tt)
