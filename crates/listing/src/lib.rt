@@ -5,7 +5,6 @@ ghost use Rattle.fields.specs.Staged.{run};
 ghost use Rattle.nak.specs.Reading.{readingNak};
 ghost use Rattle.listing.specs.Listing.{isAccepted};
 use fields::Refusal;
-use header::LargeFileFlag;
 use libc::STDOUT_FILENO;
 use nak::Nak;
 use nak::NakResult;
@@ -40,8 +39,8 @@ pub fn print_refusal(refusal: Refusal) -> u8
     numbers.number
 }
 
-fn print_request(area: &[u8], file: LargeFileFlag, cursor: RequestCursor) -> RequestCursor {
-    let found = cursor.next(area, file);
+fn print_request(nak: Nak, buf: &[u8], cursor: RequestCursor) -> RequestCursor {
+    let found = nak.next_request(buf, cursor);
     match found {
         NextRequest::Pair { start, end, next } => {
             print_line(b"request", 2, start, end);
@@ -51,11 +50,11 @@ fn print_request(area: &[u8], file: LargeFileFlag, cursor: RequestCursor) -> Req
     }
 }
 
-fn print_requests(area: &[u8], file: LargeFileFlag, count: usize) {
+fn print_requests(nak: Nak, buf: &[u8], count: usize) {
     let mut cursor = RequestCursor { at: 0 };
     let mut i = 0;
     while i < count {
-        cursor = print_request(area, file, cursor);
+        cursor = print_request(nak, buf, cursor);
         i += 1;
     }
 }
@@ -66,9 +65,7 @@ fn print_nak(nak: Nak, buf: &[u8]) {
     print_number(header.source.0.value);
     print_line(b"", 2, header.sequence.0.value, header.destination.0.value);
     print_line(b"scope", 2, nak.start, nak.end);
-    let file = header.file;
-    let area = nak.request_area(buf);
-    print_requests(area, file, nak.count);
+    print_requests(nak, buf, nak.count);
     print_line(b"end", 1, nak.stop as u64, 0);
 }
 

@@ -2,6 +2,7 @@
 pub mod Codes
 pub mod Reading
 pub mod Walking
+mod Held
 pub mod Writing
 pub mod Reserving
 pub mod Counting

@@ -9,6 +9,7 @@ use header::PduHeader;
 pub mod compare;
 pub mod count;
 pub mod directive;
+pub mod iter;
 pub mod read;
 pub mod requests;
 pub mod reserve;

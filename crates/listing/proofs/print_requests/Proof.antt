@@ -6,10 +6,10 @@ use Rattle.listing.proofs.print_requests.Statement.{statement}
 use Rattle.listing.proofs.print_requests.Tie as tie
 
 abbrev Inv-loop : tie.InvT-loop
-Inv-loop area file count cursor₀ i₀ cursor i = i ≤ count
+Inv-loop nak buf count cursor₀ i₀ cursor i = i ≤ count
 
 abbrev μ-loop : tie.MeasureT-loop
-μ-loop area file count cursor₀ i₀ cursor i = count - i
+μ-loop nak buf count cursor₀ i₀ cursor i = count - i
 
 loop-holds : tie.Need-loop-holds Inv-loop μ-loop
 loop-holds c = search needs
