@@ -3,8 +3,11 @@
 //! all plain data, so that the driver of either side can stand on it; only `rust` knows the Rust.
 pub mod command;
 pub mod domain;
+pub mod judge;
+pub mod lists;
 pub mod make;
 pub mod parse;
+pub mod refusal;
 #[cfg(feature = "rust")]
 pub mod rust;
 pub mod serve;

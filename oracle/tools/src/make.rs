@@ -96,7 +96,7 @@ pub fn pair_size(record: &Record) -> usize {
 }
 
 /// The bytes of a valid record's header.
-fn header(record: &Record) -> Vec<u8> {
+pub fn header(record: &Record) -> Vec<u8> {
     let r = record;
     let mut bytes = vec![
         1 << 5 | r.pdu_type << 4 | r.direction << 3 | r.mode << 2 | r.crc << 1 | r.large,
