@@ -34,7 +34,7 @@ replace-with = "debian"
 directory = "/usr/share/cargo/registry"
 C
 (cd "$out/src" && cargo build --release --offline --target-dir "$out")
-"$here/build.sh"
+"$here/build.sh" oracle
 
 for package in $packages; do
     dpkg-query -W "$package"
