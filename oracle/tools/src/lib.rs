@@ -8,6 +8,7 @@ pub mod lists;
 pub mod make;
 pub mod parse;
 pub mod refusal;
+pub mod replay;
 #[cfg(feature = "rust")]
 pub mod rust;
 pub mod serve;
@@ -51,4 +52,15 @@ pub enum List {
     None,
     Normal(Vec<u32>),
     Large(Vec<u64>),
+}
+
+impl List {
+    /// How many whole pairs they are.
+    pub fn pairs(&self) -> usize {
+        match self {
+            List::None => 0,
+            List::Normal(numbers) => numbers.len() / 2,
+            List::Large(numbers) => numbers.len() / 2,
+        }
+    }
 }

@@ -1,7 +1,7 @@
 //! Every width and flag on both sides of each boundary that document 01 names.
 use super::at_every_shape;
 use crate::command::Nak;
-use crate::make::{Random, header, header_len, nak_data, pair_size, pdu, seal};
+use crate::make::{Random, header, header_len, nak_data, nak_len, pair_size, pdu, seal};
 use crate::show::hex;
 use crate::{List, Record};
 use std::io::{Result, Write};
@@ -80,8 +80,8 @@ pub fn headers(random: &mut Random, out: &mut impl Write) -> Result<()> {
         let without_destination = h - record.destination.width as usize;
         writeln!(out, "build {record}")?;
         for room in [0, 3, 4, without_destination - 1, h - 1, h, h + 1, h + 9] {
-            let room = hex(&random.bytes(room));
-            writeln!(out, "wheader {record} {room}")?;
+            let fill = random.number() as u8;
+            writeln!(out, "wheader {record} {room}*{fill:02x}")?;
         }
         beside(random, out, "header", header(&record))?;
         let length = random.below(12) as usize;
@@ -122,12 +122,7 @@ pub fn naks(random: &mut Random, out: &mut impl Write) -> Result<()> {
 
 /// `kind` is the record with the file flag that the writer gives it.
 fn write(random: &mut Random, out: &mut impl Write, nak: &Nak, kind: Record) -> Result<()> {
-    let numbers = match &nak.list {
-        List::None => 0,
-        List::Normal(numbers) => numbers.len(),
-        List::Large(numbers) => numbers.len(),
-    };
-    let whole = nak_len(&kind, numbers / 2);
+    let whole = nak_len(&kind, nak.list.pairs());
     let fill = random.number() as u8;
     for room in whole - 1..=whole + 1 {
         writeln!(out, "write {nak} {room}*{fill:02x}")?;
@@ -145,11 +140,6 @@ fn reserve(random: &mut Random, out: &mut impl Write, nak: &Nak, pairs: usize) -
         writeln!(out, "finish {record} {pairs} {start} {end} {buf}")?;
     }
     Ok(())
-}
-
-/// P of a NAK of that many pairs.
-pub fn nak_len(record: &Record, pairs: usize) -> usize {
-    header_len(record) + 1 + pair_size(record) * (1 + pairs) + 2 * usize::from(record.crc)
 }
 
 /// Packet sizes beside the least that is accepted and beside one pair more.

@@ -1,6 +1,5 @@
 //! Widths that are not allowed or not equal, and as many pairs as fit, one fewer and one more.
-use super::boundary::nak_len;
-use crate::make::{Random, nak_data, pdu};
+use crate::make::{Random, nak_data, nak_len, pdu};
 use crate::show::hex;
 use crate::{Field, List, Record};
 use std::io::{Result, Write};
@@ -45,7 +44,9 @@ fn with_widths(random: &mut Random, out: &mut impl Write, widths: [u64; 3]) -> R
     writeln!(out, "write {record} {start} {end} none 90*c3")?;
     writeln!(out, "write {record} {start} {end} n:{pairs}*1,2 90*c3")?;
     writeln!(out, "write {record} {start} {end} l:{pairs}*1,2 90*c3")?;
-    writeln!(out, "compare {N} {record} {start} {end} none")
+    writeln!(out, "compare {N} {record} {start} {end} none")?;
+    writeln!(out, "compare {N} {record} {start} {end} n:1,2")?;
+    writeln!(out, "compare {N} {record} {start} {end} l:1,2")
 }
 
 /// Beside 8,190 normal and 4,094 large pairs, with and without checksum.
