@@ -1,0 +1,49 @@
+//! Two calls timed by turns.
+use std::hint::black_box;
+use std::time::{Duration, Instant};
+
+/// How many samples a median is taken of.
+pub const SAMPLES: usize = 51;
+/// How long a sample is at least.
+const SAMPLE: Duration = Duration::from_millis(4);
+
+/// Prints a row: the median time of a call of each, and their ratio.
+pub fn row<A, B>(what: &str, mut rust: impl FnMut() -> A, mut port: impl FnMut() -> B) {
+    let (rust_turns, port_turns) = (turns(&mut rust), turns(&mut port));
+    let (mut of_rust, mut of_port) = (Vec::new(), Vec::new());
+    for sample in 0..SAMPLES {
+        // Who goes first changes, so that neither always finds the other's caches.
+        if sample % 2 == 0 {
+            of_rust.push(per_call(&mut rust, rust_turns));
+            of_port.push(per_call(&mut port, port_turns));
+        } else {
+            of_port.push(per_call(&mut port, port_turns));
+            of_rust.push(per_call(&mut rust, rust_turns));
+        }
+    }
+    let (rust, port) = (median(of_rust), median(of_port));
+    println!("| {what} | {rust:.1} | {port:.1} | {:.2} |", port / rust);
+}
+
+/// How many calls take as long as a sample; finding it warms up, too.
+fn turns<A>(call: &mut impl FnMut() -> A) -> u32 {
+    let mut turns = 1;
+    while per_call(call, turns) * f64::from(turns) < SAMPLE.as_nanos() as f64 {
+        turns *= 2;
+    }
+    turns
+}
+
+/// Nanoseconds.
+fn per_call<A>(call: &mut impl FnMut() -> A, turns: u32) -> f64 {
+    let start = Instant::now();
+    for _ in 0..turns {
+        black_box(call());
+    }
+    start.elapsed().as_nanos() as f64 / f64::from(turns)
+}
+
+fn median(mut samples: Vec<f64>) -> f64 {
+    samples.sort_by(f64::total_cmp);
+    samples[samples.len() / 2]
+}
