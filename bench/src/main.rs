@@ -9,8 +9,8 @@ use timing::{SAMPLES, row};
 
 fn main() {
     println!("Medians of {SAMPLES} samples, taken by turns.\n");
-    println!("| What | Rust, ns | port, ns | port / Rust |");
-    println!("|---|---:|---:|---:|");
+    println!("| What | Rust, ns | port, ns | port / Rust | of the least times |");
+    println!("|---|---:|---:|---:|---:|");
     checksums();
     for pairs in [1, 100, 8190] {
         for crc in [false, true] {

@@ -7,7 +7,8 @@ pub const SAMPLES: usize = 51;
 /// How long a sample is at least.
 const SAMPLE: Duration = Duration::from_millis(4);
 
-/// Prints a row: the median time of a call of each, and their ratio.
+/// Prints a row: the median time of a call of each, their ratio, and the ratio of the least times, on
+/// which other work on the machine tells least.
 pub fn row<A, B>(what: &str, mut rust: impl FnMut() -> A, mut port: impl FnMut() -> B) {
     let (rust_turns, port_turns) = (turns(&mut rust), turns(&mut port));
     let (mut of_rust, mut of_port) = (Vec::new(), Vec::new());
@@ -21,8 +22,12 @@ pub fn row<A, B>(what: &str, mut rust: impl FnMut() -> A, mut port: impl FnMut()
             of_rust.push(per_call(&mut rust, rust_turns));
         }
     }
-    let (rust, port) = (median(of_rust), median(of_port));
-    println!("| {what} | {rust:.1} | {port:.1} | {:.2} |", port / rust);
+    of_rust.sort_by(f64::total_cmp);
+    of_port.sort_by(f64::total_cmp);
+    let ratio = |k: usize| of_port[k] / of_rust[k];
+    let (rust, port) = (of_rust[SAMPLES / 2], of_port[SAMPLES / 2]);
+    let (middle, least) = (ratio(SAMPLES / 2), ratio(0));
+    println!("| {what} | {rust:.1} | {port:.1} | {middle:.2} | {least:.2} |");
 }
 
 /// How many calls take as long as a sample; finding it warms up, too.
@@ -41,9 +46,4 @@ fn per_call<A>(call: &mut impl FnMut() -> A, turns: u32) -> f64 {
         black_box(call());
     }
     start.elapsed().as_nanos() as f64 / f64::from(turns)
-}
-
-fn median(mut samples: Vec<f64>) -> f64 {
-    samples.sort_by(f64::total_cmp);
-    samples[samples.len() / 2]
 }

@@ -1,31 +1,5 @@
-//! The form of the replay list: commands with the Rust's answers, for a program that has no text.
-//!
-//! Every number is big-endian. The file is a count of records (4 bytes), then the records. A record is
-//! a code (1 byte), what goes in, and what must come out. In the order of this table, each part is
-//! there for the codes that it names, and for no others:
-//!
-//! ```text
-//! header     3 to 6, 8 to 15    shape (10 bytes), data field length (2), three values (8 each), as
-//!                               the library's header file takes them
-//! scope      8 to 10, 12 to 15  start (8), end (8)
-//! size       6, 11, 12          packet size, or count of pairs (8)
-//! bytes      1, 2, 4, 7, 13-15  length (4), that many bytes
-//! numbers    9, 10, 14, 15      count (4), that many numbers of 4 bytes (9, 14) or of 8 (10, 15)
-//! buffer     5, 8 to 12         length of the lent buffer (4), the byte that fills it (1)
-//! answer     all                count (1), that many numbers (8 each): the first of the library's
-//!                               twenty; all others must be 0. For code 1: 0, then the checksum
-//! after      5, 8 to 12         count (4), that many bytes: the first of the buffer after the call;
-//!                               all others must still be what filled it
-//! pairs      7                  count (4), that many pairs, start (8) and end (8): the requests; none
-//!                               where the reading is refused
-//! ```
-//!
-//! ```text
-//! 1 cfdp_checksum      5 cfdp_header_write    9 cfdp_nak_write_normal   13 cfdp_nak_compare
-//! 2 cfdp_header_read   6 cfdp_nak_most       10 cfdp_nak_write_large    14 cfdp_nak_compare_normal
-//! 3 cfdp_header_build  7 cfdp_nak_read       11 cfdp_nak_reserve        15 cfdp_nak_compare_large
-//! 4 cfdp_header_verify 8 cfdp_nak_write      12 cfdp_nak_finish
-//! ```
+//! The records of the replay list: commands with the Rust's answers, for a program that has no text.
+//! README.md sets out their form, under 'The replay list'.
 use crate::command::Nak;
 use crate::{Command, List, Record, Scope, parse, refusal};
 

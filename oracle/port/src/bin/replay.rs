@@ -1,4 +1,4 @@
-//! Runs a replay list (tools/src/replay.rs has its form) from standard input through the port's library.
+//! Runs a replay list (README.md has its form) from standard input through the port's library.
 //! Names each record that differs, by its place in the file; the last line is 'N replayed, M differ'.
 //! Ends with 1 if any differ, or if the list is not of its form.
 use port::answer::UNTOUCHED;

@@ -1,5 +1,5 @@
 //! Writes the replay list to standard output: some thousands of commands inside document 01's domain,
-//! each with the Rust's answer, in the form that src/replay.rs sets out. It is the same every time.
+//! each with the Rust's answer, in the form that README.md sets out. It is the same every time.
 //!
 //! Document 01's cases come first. Then, of a list by chance, those that add something: an answer of
 //! a command with widths, a flag, a length, a code or a count of pairs that was not yet there often
