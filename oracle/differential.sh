@@ -9,10 +9,11 @@ bin=$here/target/release
 [ $# -gt 0 ] || set -- 1 2 3 4 5 6 7 8 9 10 11 12
 "$here/build.sh"
 
-echo "seeds: $*"
-{
-    "$bin/commands" exhaustive
-    for seed; do
-        "$bin/commands" base "$seed"
-    done
-} | "$bin/compare" "$bin/oracle" "$bin/port"
+failed=0
+echo "exhaustive"
+"$bin/commands" exhaustive | "$bin/compare" "$bin/oracle" "$bin/port" || failed=1
+echo "seeds $*"
+for seed; do
+    "$bin/commands" base "$seed"
+done | "$bin/compare" "$bin/oracle" "$bin/port" || failed=1
+exit "$failed"

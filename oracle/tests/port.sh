@@ -1,7 +1,7 @@
 #!/bin/sh
 # Checks the port's driver and the comparer that ../build.sh built: the port gives the answers of
-# own.expected, port and Rust agree on document 01's cases and on the lines of silent.txt, and the
-# comparer counts each wrong answer that is put in on the way.
+# own.expected, port and Rust agree on document 01's cases, on the lines of silent.txt and on the
+# replay list, and the comparer counts each wrong answer that is put in on the way.
 # The last line is 'N passed, M failed'; ends with 1 if anything failed.
 set -eu
 here=$(cd "$(dirname "$0")" && pwd)
@@ -61,6 +61,23 @@ wrong "a byte beyond the written ones changed" '49s/ee\$/ef/'
 wrong "a buffer not shown" '49s/ buf.*//'
 wrong "a panic for an answer" '49s/ok 7/panic/'
 wrong "no last answer" '\$d'
+
+# replayed NAME LIST EXPECTED: the last line of a replay
+replayed() {
+    "$bin/replay" < "$2" | tail -n 1 > "$work/seen" || true
+    echo "$3" > "$work/expected"
+    expect "$1" "$work/expected" "$work/seen"
+}
+
+"$bin/replay_list" > "$work/list" 2> "$work/said"
+replayed "replay list" "$work/list" "4093 replayed, 0 differ"
+# The byte at 100 is in an answer.
+{
+    head -c 100 "$work/list"
+    printf '\377'
+    tail -c +102 "$work/list"
+} > "$work/changed"
+replayed "replay list with a wrong answer" "$work/changed" "4093 replayed, 1 differ"
 
 echo "$passed passed, $failed failed"
 [ "$failed" -eq 0 ]
