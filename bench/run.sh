@@ -1,7 +1,7 @@
 #!/bin/sh
 # Times port and Rust, both built in release, and prints a table in Markdown. Needs no network.
 #   bench/run.sh
-# CFDP_NAK_LIB=FOLDER links the libcfdp_nak.a of that folder; without it `rt staticlib` makes one.
+# CFDP_NAK_LIB=FOLDER (its full path) links the libcfdp_nak.a of that folder; without it `rt staticlib` makes one.
 set -eu
 here=$(cd "$(dirname "$0")" && pwd)
 oracle=$here/../oracle

@@ -3,7 +3,7 @@
 # replay_list; then the port's archive, by `rt staticlib cfdp_nak`, and over it target/release/port.
 #   ./build.sh            all of it
 #   ./build.sh oracle     without the port, for which the Rattle kit is not needed
-# CFDP_NAK_LIB=FOLDER links the libcfdp_nak.a of that folder, and makes none.
+# CFDP_NAK_LIB=FOLDER (its full path) links the libcfdp_nak.a of that folder, and makes none.
 set -eu
 here=$(cd "$(dirname "$0")" && pwd)
 cd "$here"

@@ -3,9 +3,10 @@ use std::hint::black_box;
 use std::time::{Duration, Instant};
 
 /// How many samples a median is taken of.
-pub const SAMPLES: usize = 51;
-/// How long a sample is at least.
-const SAMPLE: Duration = Duration::from_millis(4);
+pub const SAMPLES: usize = 501;
+/// How long a sample is at least: shorter than the time for which a busy machine lets others run, so
+/// that most samples are taken without a break.
+const SAMPLE: Duration = Duration::from_micros(500);
 
 /// Prints a row: the median time of a call of each, their ratio, and the ratio of the least times, on
 /// which other work on the machine tells least.

@@ -214,8 +214,8 @@ fn changed(mut list: List, by: u64) -> List {
     fn change<T: Copy + From<u8>>(numbers: &mut Vec<T>, by: u64, flip: impl Fn(T) -> T) {
         match numbers.len() {
             0 => numbers.extend([T::from(1), T::from(2)]),
-            n if by % 4 == 0 => numbers.truncate(n - 2),
-            _ if by % 4 == 1 => numbers.extend([T::from(1), T::from(2)]),
+            n if by & 3 == 0 => numbers.truncate(n - 2),
+            _ if by & 3 == 1 => numbers.extend([T::from(1), T::from(2)]),
             n => {
                 let at = (by >> 8) as usize % n;
                 numbers[at] = flip(numbers[at]);
