@@ -25,8 +25,9 @@ fn perform(command: Command) -> String {
         Finish(record, count, scope, buf) => {
             lending(buf, |b| base::finish(&record, count, &scope, b))
         }
+        #[cfg(comparison)]
         Compare(bytes, nak) => asked(base::compare(&bytes, &nak)),
-        _ => "bad the port has no such command".to_string(),
+        _ => show::LACKING.to_string(),
     }
 }
 

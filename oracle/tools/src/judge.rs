@@ -9,8 +9,8 @@ pub enum Verdict {
     Same(usize),
     Differ,
     Outside,
-    /// A command of the later requests, which the port lacks.
-    Later,
+    /// A command that the port lacks, and says so.
+    Lacking,
     /// An empty line or a comment, copied by both.
     Copied,
 }
@@ -20,14 +20,16 @@ pub fn judge(command: &str, oracle: &str, port: &str) -> Verdict {
     if command.is_empty() || command.starts_with('#') {
         return same_or(oracle == port, Verdict::Copied);
     }
+    if port.ends_with(show::LACKING) {
+        return Verdict::Lacking;
+    }
     let (word, rust) = oracle.split_once(' ').unwrap_or((oracle, ""));
     let ours = port.strip_prefix(word).and_then(|p| p.strip_prefix(' '));
     match word {
         "out" => same_or(ours.is_some(), Verdict::Outside),
         "in" => inside(command, rust, ours.unwrap_or("")),
         // What the oracle calls bad is a fault of the list, and must not pass for compared.
-        "bad" => Verdict::Differ,
-        _ => same_or(port.starts_with("bad "), Verdict::Later),
+        _ => Verdict::Differ,
     }
 }
 
@@ -62,7 +64,7 @@ pub struct Count {
     pub same: [u64; 16],
     pub differ: u64,
     pub outside: u64,
-    pub later: u64,
+    pub lacking: u64,
 }
 
 impl Count {
@@ -71,7 +73,7 @@ impl Count {
             Verdict::Same(number) => self.same[number] += 1,
             Verdict::Differ => self.differ += 1,
             Verdict::Outside => self.outside += 1,
-            Verdict::Later => self.later += 1,
+            Verdict::Lacking => self.lacking += 1,
             Verdict::Copied => (),
         }
     }
@@ -84,7 +86,7 @@ impl Count {
 
 impl Display for Count {
     fn fmt(&self, f: &mut Formatter<'_>) -> Shown {
-        let commands = self.compared() + self.outside + self.later;
+        let commands = self.compared() + self.outside + self.lacking;
         write!(f, "the same: accepted {}", self.same[0])?;
         for (number, count) in self.same.iter().enumerate().skip(1) {
             if *count > 0 {
@@ -93,8 +95,8 @@ impl Display for Count {
         }
         write!(f, "\n{commands} commands: {} compared", self.compared())?;
         write!(f, ", {} outside the domain", self.outside)?;
-        if self.later > 0 {
-            write!(f, ", {} that the port lacks", self.later)?;
+        if self.lacking > 0 {
+            write!(f, ", {} that the port lacks", self.lacking)?;
         }
         write!(f, ", {} differing", self.differ)
     }
@@ -104,6 +106,7 @@ impl Display for Count {
 mod tests {
     use super::Verdict::*;
     use super::judge;
+    use crate::show::LACKING;
 
     const READ: &str = "read 28 00 01 00 01 02 03 08 00 00";
     const WRITE: &str = "write 0 1 0 0 0 0 0 0 1 1 1 2 1 3 0 1000 none 3*ee";
@@ -165,9 +168,8 @@ mod tests {
         assert_eq!(judge(READ, "out panic", "out refused 6 9 16"), Outside);
         assert_eq!(judge(READ, "out panic", "in refused 6 9 16"), Differ);
         assert_eq!(judge("# text", "# text", "# text"), Copied);
-        assert_eq!(
-            judge("eof -", "err X", "bad the port has no such command"),
-            Later
-        );
+        assert_eq!(judge("eof -", "err X", LACKING), Lacking);
+        assert_eq!(judge("eof -", "err X", "err X"), Differ);
+        assert_eq!(judge("eof -", "err X", "bad bytes"), Differ);
     }
 }
