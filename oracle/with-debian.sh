@@ -18,7 +18,7 @@ done
 # The same sources, but for two lines of a Cargo.toml, and Debian's folder as the only source.
 rm -rf "$out/src"
 mkdir -p "$out/src/.cargo" "$out/src/standin"
-cp -r "$here/spacepackets" "$here/tools" "$out/src/"
+cp -r "$here/spacepackets" "$here/tools" "$here/tests" "$out/src/"
 cp -r "$here/standin/crc" "$here/standin/bitbybit" "$out/src/standin/"
 sed -i -e 's|^thiserror = .*|thiserror = "1"|' \
     -e 's|^num_enum = .*|num_enum = { version = "0.5", default-features = false }|' \
@@ -34,7 +34,7 @@ replace-with = "debian"
 directory = "/usr/share/cargo/registry"
 C
 (cd "$out/src" && cargo build --release --offline --target-dir "$out")
-"$here/build.sh"
+"$here/build.sh" oracle
 
 for package in $packages; do
     dpkg-query -W "$package"

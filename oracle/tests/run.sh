@@ -67,6 +67,12 @@ truncated() {
 (cd "$here/../spacepackets" && sha256sum -c --quiet SHA256SUMS) > "$work/seen" 2>&1 || true
 expect "SHA256SUMS" "$work/expected" "$work/seen"
 
+# The comparer's own tests: the same answers are the same, wrong ones differ.
+(cd "$here/.." && cargo test --offline -q --lib -p tools) > "$work/said" 2>&1 || true
+grep -o '4 passed; 0 failed' "$work/said" > "$work/seen" || cp "$work/said" "$work/seen"
+echo '4 passed; 0 failed' > "$work/expected"
+expect "the comparer's own tests" "$work/expected" "$work/seen"
+
 lines smoke
 lines silent
 

@@ -3,8 +3,12 @@
 //! all plain data, so that the driver of either side can stand on it; only `rust` knows the Rust.
 pub mod command;
 pub mod domain;
+pub mod judge;
+pub mod lists;
 pub mod make;
 pub mod parse;
+pub mod refusal;
+pub mod replay;
 #[cfg(feature = "rust")]
 pub mod rust;
 pub mod serve;
@@ -48,4 +52,15 @@ pub enum List {
     None,
     Normal(Vec<u32>),
     Large(Vec<u64>),
+}
+
+impl List {
+    /// How many whole pairs they are.
+    pub fn pairs(&self) -> usize {
+        match self {
+            List::None => 0,
+            List::Normal(numbers) => numbers.len() / 2,
+            List::Large(numbers) => numbers.len() / 2,
+        }
+    }
 }

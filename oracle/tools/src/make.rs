@@ -95,8 +95,13 @@ pub fn pair_size(record: &Record) -> usize {
     if record.large == 1 { 16 } else { 8 }
 }
 
+/// P of a NAK of that many pairs.
+pub fn nak_len(record: &Record, pairs: usize) -> usize {
+    header_len(record) + 1 + pair_size(record) * (1 + pairs) + 2 * usize::from(record.crc)
+}
+
 /// The bytes of a valid record's header.
-fn header(record: &Record) -> Vec<u8> {
+pub fn header(record: &Record) -> Vec<u8> {
     let r = record;
     let mut bytes = vec![
         1 << 5 | r.pdu_type << 4 | r.direction << 3 | r.mode << 2 | r.crc << 1 | r.large,

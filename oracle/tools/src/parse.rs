@@ -124,7 +124,8 @@ fn repeats(word: &str) -> Parsed<usize> {
     }
 }
 
-fn bytes(word: &str) -> Parsed<Vec<u8>> {
+/// BYTES
+pub fn bytes(word: &str) -> Parsed<Vec<u8>> {
     if word == "-" {
         return Ok(Vec::new());
     }

@@ -187,6 +187,9 @@ pub fn refused(numbers: &[u64]) -> String {
     format!("refused{}", words.collect::<String>())
 }
 
+/// The answer to a command that the port does not have.
+pub const LACKING: &str = "bad the port has no such command";
+
 /// The answer of a command that was lent a buffer.
 pub fn with_buffer(answer: &str, buf: &[u8]) -> String {
     format!("{answer} buf {}", hex(buf))

@@ -1,6 +1,6 @@
 //! The oracle: the Rust behind a line protocol. One command on each line of standard input, one
 //! line of answer for each on standard output. A line that is empty or begins with '#' is copied.
-//! The driver of the port speaks the same protocol; where the two differ is said below.
+//! The port's driver (../port) speaks the same protocol; where the two differ is said below.
 //!
 //! # Words
 //!
@@ -54,7 +54,8 @@
 //!                                                    MetadataPduCreator::new and write_to_slice
 //! ```
 //!
-//! NAME, NAME (source, destination) and OPTIONS are written as BYTES are.
+//! NAME, NAME (source, destination) and OPTIONS are written as BYTES are. The port's driver lacks these
+//! commands, and wsized: it answers 'bad' and the reason.
 //!
 //! # Answers
 //!
@@ -68,7 +69,12 @@
 //!                        also 'expected' and the one expected
 //! refused NO NUMBERS     the port's driver only: document 01's number and the numbers it returns
 //! panic                  the Rust panicked
-//! not made               the Rust's types hold no such value (an odd list, a reserved code)
+//! not made               this side's types hold no such value: in the Rust an odd list or a reserved
+//!                        code, in the port a width above 255
+//! stray NUMBERS          the port's driver only: its library's numbers are of no form that the
+//!                        library's header file gives; always a fault
+//! err forms differ       the Rust's three checksums, or the port's two walks over the requests, do
+//!                        not agree; always a fault
 //! ```
 //!
 //! and, for every command that is lent a buffer, ' buf ' and the whole buffer after the call in
@@ -98,8 +104,7 @@
 //! area; 'requests' with nothing after it is an area that holds no whole pair. The OFFSET of a
 //! reserved area counts from the buffer's first byte. HEX is hex digits, '-' for no bytes.
 use std::io::Result;
-use tools::Command;
-use tools::rust::{asked, base, later, lending};
+use tools::rust::perform;
 use tools::serve::serve;
 
 fn main() -> Result<()> {
@@ -108,32 +113,4 @@ fn main() -> Result<()> {
         std::panic::set_hook(Box::new(|_| ()));
     }
     serve(perform)
-}
-
-fn perform(command: Command) -> String {
-    use Command::*;
-    match command {
-        Crc(bytes) => asked(|| base::crc(&bytes)),
-        Header(bytes) => asked(|| base::header(&bytes)),
-        Build(record) => asked(|| base::build(&record)),
-        Verify(record, bytes) => asked(|| base::verify(&record, &bytes)),
-        WriteHeader(record, buf) => lending(buf, |b| base::write_header(&record, b)),
-        Max(record, size) => asked(|| base::max(&record, size)),
-        Read(bytes) => asked(|| base::read(&bytes)),
-        Write(nak, buf) => lending(buf, |b| base::write(&nak, b)),
-        WriteSized(nak, buf) => lending(buf, |b| base::write_sized(&nak, b)),
-        Reserve(record, count, buf) => lending(buf, |b| base::reserve(&record, count, b)),
-        Finish(record, count, scope, buf) => {
-            lending(buf, |b| base::finish(&record, count, &scope, b))
-        }
-        Compare(bytes, nak) => asked(|| base::compare(&bytes, &nak)),
-        Eof(bytes) => asked(|| later::eof(&bytes)),
-        Ack(bytes) => asked(|| later::ack(&bytes)),
-        Metadata(bytes) => asked(|| later::metadata(&bytes)),
-        WriteEof(record, eof, buf) => lending(buf, |b| later::write_eof(&record, &eof, b)),
-        WriteAck(record, ack, buf) => lending(buf, |b| later::write_ack(&record, &ack, b)),
-        WriteMetadata(record, metadata, buf) => {
-            lending(buf, |b| later::write_metadata(&record, &metadata, b))
-        }
-    }
 }

@@ -2,7 +2,7 @@
 pub mod base;
 pub mod later;
 
-use crate::{Field, Record, show};
+use crate::{Command, Field, Record, show};
 use spacepackets::ByteConversionError;
 use spacepackets::cfdp::pdu::ack::InvalidAckedDirectiveCodeError;
 use spacepackets::cfdp::pdu::nak::{InvalidStartOrEndOfScopeError, TooSmallForPduHeaderError};
@@ -24,6 +24,35 @@ pub struct Refused(pub String);
 /// The Rust's types hold no such value, so nothing was called.
 pub fn not_made() -> Refused {
     Refused("not made".to_string())
+}
+
+/// The answer to a command, less the word for the domain.
+pub fn perform(command: Command) -> String {
+    use Command::*;
+    match command {
+        Crc(bytes) => asked(|| base::crc(&bytes)),
+        Header(bytes) => asked(|| base::header(&bytes)),
+        Build(record) => asked(|| base::build(&record)),
+        Verify(record, bytes) => asked(|| base::verify(&record, &bytes)),
+        WriteHeader(record, buf) => lending(buf, |b| base::write_header(&record, b)),
+        Max(record, size) => asked(|| base::max(&record, size)),
+        Read(bytes) => asked(|| base::read(&bytes)),
+        Write(nak, buf) => lending(buf, |b| base::write(&nak, b)),
+        WriteSized(nak, buf) => lending(buf, |b| base::write_sized(&nak, b)),
+        Reserve(record, count, buf) => lending(buf, |b| base::reserve(&record, count, b)),
+        Finish(record, count, scope, buf) => {
+            lending(buf, |b| base::finish(&record, count, &scope, b))
+        }
+        Compare(bytes, nak) => asked(|| base::compare(&bytes, &nak)),
+        Eof(bytes) => asked(|| later::eof(&bytes)),
+        Ack(bytes) => asked(|| later::ack(&bytes)),
+        Metadata(bytes) => asked(|| later::metadata(&bytes)),
+        WriteEof(record, eof, buf) => lending(buf, |b| later::write_eof(&record, &eof, b)),
+        WriteAck(record, ack, buf) => lending(buf, |b| later::write_ack(&record, &ack, b)),
+        WriteMetadata(record, metadata, buf) => {
+            lending(buf, |b| later::write_metadata(&record, &metadata, b))
+        }
+    }
 }
 
 /// What `call` says, or 'panic'.

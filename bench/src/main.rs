@@ -1,0 +1,51 @@
+//! Times port and Rust on the same inputs, by turns, and prints the medians as a table in Markdown.
+mod nak;
+mod timing;
+
+use nak::Sample;
+use spacepackets::crc::{CRC_CCITT_FALSE, CRC_CCITT_FALSE_NO_TABLE};
+use std::hint::black_box;
+use timing::{SAMPLES, row};
+
+fn main() {
+    println!("Medians of {SAMPLES} samples, taken by turns.\n");
+    println!("| What | Rust, ns | port, ns | port / Rust | of the least times |");
+    println!("|---|---:|---:|---:|---:|");
+    checksums();
+    for pairs in [1, 100, 8190] {
+        for crc in [false, true] {
+            let sample = Sample::new(pairs, crc);
+            let plural = if pairs == 1 { "" } else { "s" };
+            let about = format!("{pairs} pair{plural}{}", if crc { ", CRC" } else { "" });
+            sample.read(&format!("read and walk {about}"));
+            sample.write(&format!("write {about}"));
+        }
+    }
+    // 16 bytes and 8 for each pair: NAKs of 24 and of 1,000 bytes.
+    for pairs in [1, 123] {
+        let sample = Sample::new(pairs, false);
+        let length = sample.bytes.len();
+        sample.beginnings(&format!("read each beginning of a NAK of {length} bytes"));
+    }
+}
+
+/// The Rust's PDUs go through its table of 256 remainders; it also has the form without one.
+fn checksums() {
+    // A static, so that no use of it copies the table.
+    static TABLE: crc_types::Table = CRC_CCITT_FALSE;
+    static NO_TABLE: crc_types::NoTable = CRC_CCITT_FALSE_NO_TABLE;
+    let spread = |k: u32| (k.wrapping_mul(2_654_435_761) >> 13) as u8;
+    let bytes: Vec<u8> = (0..65_536).map(spread).collect();
+    let ours = || port::ffi::checksum(black_box(&bytes));
+    assert_eq!(TABLE.checksum(&bytes), ours());
+    let by_table = || TABLE.checksum(black_box(&bytes));
+    row("checksum over 64 KiB, the Rust by table", by_table, ours);
+    let by_bits = || NO_TABLE.checksum(black_box(&bytes));
+    row("checksum over 64 KiB, the Rust bit by bit", by_bits, ours);
+}
+
+/// The types of the Rust's two constants.
+mod crc_types {
+    pub type Table = crc::Crc<u16>;
+    pub type NoTable = crc::Crc<u16, crc::NoTable>;
+}

@@ -1,0 +1,170 @@
+//! Runs a replay list (README.md has its form) from standard input through the port's library.
+//! Names each record that differs, by its place in the file; the last line is 'N replayed, M differ'.
+//! Ends with 1 if any differ, or if the list is not of its form.
+use port::answer::UNTOUCHED;
+use port::ffi::{self, Answer, Header};
+use std::io::{Read, Result, stdin};
+use std::process::ExitCode;
+
+fn main() -> Result<ExitCode> {
+    let mut list = Vec::new();
+    stdin().read_to_end(&mut list)?;
+    let mut from = Parts(&list);
+    let (records, mut differ) = (from.number(4), 0);
+    for _ in 0..records {
+        let place = list.len() - from.0.len();
+        if !replayed(&mut from) {
+            println!("differs: the record at byte {place}");
+            differ += 1;
+        }
+    }
+    println!("{records} replayed, {differ} differ");
+    let ended = differ == 0 && from.0.is_empty();
+    Ok(ExitCode::from(u8::from(!ended)))
+}
+
+/// What is left of the list.
+struct Parts<'a>(&'a [u8]);
+
+impl<'a> Parts<'a> {
+    fn bytes(&mut self, count: usize) -> &'a [u8] {
+        let (first, rest) = self.0.split_at(count);
+        self.0 = rest;
+        first
+    }
+
+    fn number(&mut self, size: usize) -> u64 {
+        let bytes = self.bytes(size).iter();
+        bytes.fold(0, |n, byte| n << 8 | u64::from(*byte))
+    }
+
+    /// A count of 4 bytes, then as many bytes.
+    fn counted(&mut self) -> &'a [u8] {
+        let count = self.number(4) as usize;
+        self.bytes(count)
+    }
+
+    fn numbers(&mut self, count: u64, size: usize) -> Vec<u64> {
+        (0..count).map(|_| self.number(size)).collect()
+    }
+}
+
+/// What goes into a call. What a command does not take stays empty.
+#[derive(Default)]
+struct Inputs<'a> {
+    shape: [u8; 10],
+    length: u16,
+    ids: [u64; 3],
+    scope: (u64, u64),
+    size: usize,
+    bytes: &'a [u8],
+    numbers: Vec<u64>,
+    buf: Vec<u8>,
+    fill: u8,
+}
+
+fn inputs<'a>(code: u64, from: &mut Parts<'a>) -> Inputs<'a> {
+    let mut to = Inputs::default();
+    if matches!(code, 3..=6 | 8..=15) {
+        to.shape.copy_from_slice(from.bytes(10));
+        to.length = from.number(2) as u16;
+        to.ids = [from.number(8), from.number(8), from.number(8)];
+    }
+    if matches!(code, 8..=10 | 12..=15) {
+        to.scope = (from.number(8), from.number(8));
+    }
+    if matches!(code, 6 | 11 | 12) {
+        to.size = from.number(8) as usize;
+    }
+    if matches!(code, 1 | 2 | 4 | 7 | 13..=15) {
+        to.bytes = from.counted();
+    }
+    if matches!(code, 9 | 10 | 14 | 15) {
+        let size = if matches!(code, 9 | 14) { 4 } else { 8 };
+        let count = from.number(4);
+        to.numbers = from.numbers(count, size);
+    }
+    if matches!(code, 5 | 8..=12) {
+        let length = from.number(4) as usize;
+        to.fill = from.number(1) as u8;
+        to.buf = vec![to.fill; length];
+    }
+    to
+}
+
+/// Whether the next record's call gives what the record says.
+fn replayed(from: &mut Parts) -> bool {
+    let code = from.number(1);
+    let mut inputs = inputs(code, from);
+    let answer = call(code, &mut inputs);
+    let count = from.number(1);
+    let mut expected = from.numbers(count, 8);
+    expected.resize(20, 0);
+    let mut same = expected == answer;
+    if matches!(code, 5 | 8..=12) {
+        let mut after = from.counted().to_vec();
+        after.resize(inputs.buf.len(), inputs.fill);
+        same &= after == inputs.buf;
+    }
+    if code == 7 {
+        let count = from.number(4);
+        same &= from.numbers(2 * count, 8) == requests(&answer, inputs.bytes);
+    }
+    same
+}
+
+fn call(code: u64, inputs: &mut Inputs) -> Answer {
+    let Inputs {
+        length,
+        scope,
+        size,
+        bytes,
+        buf,
+        ..
+    } = inputs;
+    let (length, scope, size) = (*length, *scope, *size);
+    let header = &Header {
+        shape: inputs.shape,
+        ids: inputs.ids,
+    };
+    let large = &inputs.numbers;
+    let normal: &Vec<u32> = &large.iter().map(|n| *n as u32).collect();
+    let mut answer = [UNTOUCHED; 20];
+    let a = &mut answer;
+    match code {
+        1 => {
+            *a = [0; 20];
+            a[1] = ffi::checksum(bytes).into();
+        }
+        2 => ffi::header_read(bytes, a),
+        3 => ffi::header_build(header, length, a),
+        4 => ffi::header_verify(header, length, bytes, a),
+        5 => ffi::header_write(header, length, buf, a),
+        6 => ffi::nak_most(header, size, a),
+        7 => ffi::nak_read(bytes, a),
+        8 => ffi::nak_write(header, scope, buf, a),
+        9 => ffi::nak_write_normal(header, scope, normal, buf, a),
+        10 => ffi::nak_write_large(header, scope, large, buf, a),
+        11 => ffi::nak_reserve(header, size, buf, a),
+        12 => ffi::nak_finish(header, size, scope, buf, a),
+        #[cfg(comparison)]
+        13 => ffi::nak_compare(bytes, header, scope, a),
+        #[cfg(comparison)]
+        14 => ffi::nak_compare_normal(bytes, header, scope, normal, a),
+        #[cfg(comparison)]
+        15 => ffi::nak_compare_large(bytes, header, scope, large, a),
+        _ => (),
+    }
+    answer
+}
+
+/// The pairs of an accepted reading, start and end by turns; none of a refused one.
+fn requests(answer: &Answer, bytes: &[u8]) -> Vec<u64> {
+    let [refused, .., area, end, count] = answer.map(|n| n as usize);
+    if refused != 0 {
+        return Vec::new();
+    }
+    let mut numbers = vec![UNTOUCHED; 2 * count];
+    ffi::nak_pairs(&bytes[area..end], answer[5] == 1, &mut numbers);
+    numbers
+}

@@ -1,0 +1,192 @@
+//! The port's library as it is linked: one safe function for each function of its header file, with
+//! the same name less `cfdp_`, and all that is `unsafe`.
+//!
+//! No function of the library has a precondition, so each is safe for every argument: a slice goes
+//! over as its pointer and its length, an array as its pointer, and none is kept after the call.
+
+/// [0] is 0 for accepted or document 01's number, then its values, the rest 0.
+pub type Answer = [u64; 20];
+
+/// A header without its length: `shape` has seven flags and three widths, `ids` the three values,
+/// both in the order source, sequence number, destination.
+#[derive(Clone, Copy, Debug, PartialEq, Eq)]
+pub struct Header {
+    pub shape: [u8; 10],
+    pub ids: [u64; 3],
+}
+
+/// Start and end of scope.
+pub type Scope = (u64, u64);
+
+mod raw {
+    use super::Answer;
+
+    type Shape = *const [u8; 10];
+    type Ids = *const [u64; 3];
+    type Into = *mut Answer;
+
+    #[rustfmt::skip]
+    unsafe extern "C" {
+        pub fn cfdp_checksum(bytes: *const u8, len: usize) -> u16;
+        pub fn cfdp_header_read(bytes: *const u8, len: usize, answer: Into);
+        pub fn cfdp_header_build(shape: Shape, data_length: u16, ids: Ids, answer: Into);
+        pub fn cfdp_header_write(shape: Shape, data_length: u16, ids: Ids, buf: *mut u8, len: usize, answer: Into);
+        pub fn cfdp_header_verify(shape: Shape, data_length: u16, ids: Ids, bytes: *const u8, len: usize, answer: Into);
+        pub fn cfdp_nak_read(bytes: *const u8, len: usize, answer: Into);
+        pub fn cfdp_nak_pair(area: *const u8, len: usize, large: bool, index: usize, pair: *mut [u64; 2]) -> bool;
+        pub fn cfdp_nak_pairs(area: *const u8, len: usize, large: bool, numbers: *mut u64, room: usize) -> usize;
+        pub fn cfdp_nak_write(shape: Shape, ids: Ids, start: u64, end: u64, buf: *mut u8, len: usize, answer: Into);
+        pub fn cfdp_nak_write_normal(shape: Shape, ids: Ids, start: u64, end: u64, numbers: *const u32, count: usize, buf: *mut u8, len: usize, answer: Into);
+        pub fn cfdp_nak_write_large(shape: Shape, ids: Ids, start: u64, end: u64, numbers: *const u64, count: usize, buf: *mut u8, len: usize, answer: Into);
+        pub fn cfdp_nak_reserve(shape: Shape, ids: Ids, pairs: usize, buf: *const u8, len: usize, answer: Into);
+        pub fn cfdp_nak_finish(shape: Shape, ids: Ids, pairs: usize, start: u64, end: u64, buf: *mut u8, len: usize, answer: Into);
+        pub fn cfdp_nak_most(shape: Shape, ids: Ids, packet: usize, answer: Into);
+        #[cfg(comparison)]
+        pub fn cfdp_nak_compare(bytes: *const u8, len: usize, shape: Shape, ids: Ids, start: u64, end: u64, answer: Into);
+        #[cfg(comparison)]
+        pub fn cfdp_nak_compare_normal(bytes: *const u8, len: usize, shape: Shape, ids: Ids, start: u64, end: u64, numbers: *const u32, count: usize, answer: Into);
+        #[cfg(comparison)]
+        pub fn cfdp_nak_compare_large(bytes: *const u8, len: usize, shape: Shape, ids: Ids, start: u64, end: u64, numbers: *const u64, count: usize, answer: Into);
+    }
+}
+
+pub fn checksum(bytes: &[u8]) -> u16 {
+    unsafe { raw::cfdp_checksum(bytes.as_ptr(), bytes.len()) }
+}
+
+/// REC, h
+pub fn header_read(bytes: &[u8], answer: &mut Answer) {
+    unsafe { raw::cfdp_header_read(bytes.as_ptr(), bytes.len(), answer) }
+}
+
+/// REC
+pub fn header_build(header: &Header, data_length: u16, answer: &mut Answer) {
+    unsafe { raw::cfdp_header_build(&header.shape, data_length, &header.ids, answer) }
+}
+
+/// h
+pub fn header_write(header: &Header, data_length: u16, buf: &mut [u8], answer: &mut Answer) {
+    let Header { shape, ids } = header;
+    let (at, len) = (buf.as_mut_ptr(), buf.len());
+    unsafe { raw::cfdp_header_write(shape, data_length, ids, at, len, answer) }
+}
+
+/// E
+pub fn header_verify(header: &Header, data_length: u16, bytes: &[u8], answer: &mut Answer) {
+    let Header { shape, ids } = header;
+    let (at, len) = (bytes.as_ptr(), bytes.len());
+    unsafe { raw::cfdp_header_verify(shape, data_length, ids, at, len, answer) }
+}
+
+/// REC, start, end, offset of the request area, E, pairs
+pub fn nak_read(bytes: &[u8], answer: &mut Answer) {
+    unsafe { raw::cfdp_nak_read(bytes.as_ptr(), bytes.len(), answer) }
+}
+
+/// Whether the area has that whole pair, and the pair.
+pub fn nak_pair(area: &[u8], large: bool, index: usize, pair: &mut [u64; 2]) -> bool {
+    unsafe { raw::cfdp_nak_pair(area.as_ptr(), area.len(), large, index, pair) }
+}
+
+/// How many whole pairs were copied: as many as both hold.
+pub fn nak_pairs(area: &[u8], large: bool, numbers: &mut [u64]) -> usize {
+    let (to, room) = (numbers.as_mut_ptr(), numbers.len());
+    unsafe { raw::cfdp_nak_pairs(area.as_ptr(), area.len(), large, to, room) }
+}
+
+/// REC, written length
+pub fn nak_write(header: &Header, scope: Scope, buf: &mut [u8], answer: &mut Answer) {
+    let (Header { shape, ids }, (start, end)) = (header, scope);
+    let (at, len) = (buf.as_mut_ptr(), buf.len());
+    unsafe { raw::cfdp_nak_write(shape, ids, start, end, at, len, answer) }
+}
+
+/// REC, written length
+pub fn nak_write_normal(
+    header: &Header,
+    scope: Scope,
+    numbers: &[u32],
+    buf: &mut [u8],
+    answer: &mut Answer,
+) {
+    let (Header { shape, ids }, (start, end)) = (header, scope);
+    let (from, count) = (numbers.as_ptr(), numbers.len());
+    let (at, len) = (buf.as_mut_ptr(), buf.len());
+    unsafe { raw::cfdp_nak_write_normal(shape, ids, start, end, from, count, at, len, answer) }
+}
+
+/// REC, written length
+pub fn nak_write_large(
+    header: &Header,
+    scope: Scope,
+    numbers: &[u64],
+    buf: &mut [u8],
+    answer: &mut Answer,
+) {
+    let (Header { shape, ids }, (start, end)) = (header, scope);
+    let (from, count) = (numbers.as_ptr(), numbers.len());
+    let (at, len) = (buf.as_mut_ptr(), buf.len());
+    unsafe { raw::cfdp_nak_write_large(shape, ids, start, end, from, count, at, len, answer) }
+}
+
+/// REC, pairs, offset of the request area, E, written length
+pub fn nak_reserve(header: &Header, pairs: usize, buf: &[u8], answer: &mut Answer) {
+    let Header { shape, ids } = header;
+    unsafe { raw::cfdp_nak_reserve(shape, ids, pairs, buf.as_ptr(), buf.len(), answer) }
+}
+
+/// REC, written length
+pub fn nak_finish(
+    header: &Header,
+    pairs: usize,
+    scope: Scope,
+    buf: &mut [u8],
+    answer: &mut Answer,
+) {
+    let (Header { shape, ids }, (start, end)) = (header, scope);
+    let (at, len) = (buf.as_mut_ptr(), buf.len());
+    unsafe { raw::cfdp_nak_finish(shape, ids, pairs, start, end, at, len, answer) }
+}
+
+/// pairs
+pub fn nak_most(header: &Header, packet: usize, answer: &mut Answer) {
+    unsafe { raw::cfdp_nak_most(&header.shape, &header.ids, packet, answer) }
+}
+
+/// 1 for equal, 0 for different
+#[cfg(comparison)]
+pub fn nak_compare(bytes: &[u8], header: &Header, scope: Scope, answer: &mut Answer) {
+    let (Header { shape, ids }, (start, end)) = (header, scope);
+    let (at, len) = (bytes.as_ptr(), bytes.len());
+    unsafe { raw::cfdp_nak_compare(at, len, shape, ids, start, end, answer) }
+}
+
+/// 1 for equal, 0 for different
+#[cfg(comparison)]
+pub fn nak_compare_normal(
+    bytes: &[u8],
+    header: &Header,
+    scope: Scope,
+    numbers: &[u32],
+    answer: &mut Answer,
+) {
+    let (Header { shape, ids }, (start, end)) = (header, scope);
+    let (at, len) = (bytes.as_ptr(), bytes.len());
+    let (from, count) = (numbers.as_ptr(), numbers.len());
+    unsafe { raw::cfdp_nak_compare_normal(at, len, shape, ids, start, end, from, count, answer) }
+}
+
+/// 1 for equal, 0 for different
+#[cfg(comparison)]
+pub fn nak_compare_large(
+    bytes: &[u8],
+    header: &Header,
+    scope: Scope,
+    numbers: &[u64],
+    answer: &mut Answer,
+) {
+    let (Header { shape, ids }, (start, end)) = (header, scope);
+    let (at, len) = (bytes.as_ptr(), bytes.len());
+    let (from, count) = (numbers.as_ptr(), numbers.len());
+    unsafe { raw::cfdp_nak_compare_large(at, len, shape, ids, start, end, from, count, answer) }
+}

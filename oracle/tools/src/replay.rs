@@ -1,0 +1,191 @@
+//! The records of the replay list: commands with the Rust's answers, for a program that has no text.
+//! README.md sets out their form, under 'The replay list'.
+use crate::command::Nak;
+use crate::{Command, List, Record, Scope, parse, refusal};
+
+/// What the Rust answers to a command inside the domain, in the words of the port's library.
+pub struct Expected {
+    /// The first numbers of the library's twenty.
+    pub answer: Vec<u64>,
+    /// The lent buffer after the call.
+    pub buf: Option<Vec<u8>>,
+    /// Start and end by turns.
+    pub requests: Vec<u64>,
+}
+
+impl Expected {
+    /// From the oracle's text; `None` where it is neither an acceptance nor in README.md's table.
+    pub fn of(command: &Command, text: &str) -> Option<Expected> {
+        let (said, buf) = match text.split_once(" buf ") {
+            None => (text, None),
+            Some((said, buf)) => (said, Some(parse::bytes(buf).ok()?)),
+        };
+        if !said.starts_with("ok") {
+            return Some(Expected {
+                answer: refusal::of_error(said, refusal::length_read(command))?,
+                buf,
+                requests: Vec::new(),
+            });
+        }
+        let shown: Vec<u64> = said.split(' ').filter_map(|w| w.parse().ok()).collect();
+        let requests = match command {
+            Command::Read(_) => shown[18..].to_vec(),
+            _ => Vec::new(),
+        };
+        let answer = accepted(command, said, shown);
+        Some(Expected {
+            answer,
+            buf,
+            requests,
+        })
+    }
+}
+
+/// The numbers that the oracle shows, in the library's order.
+fn accepted(command: &Command, said: &str, mut shown: Vec<u64>) -> Vec<u64> {
+    match command {
+        Command::Read(_) => {
+            let [large, entity, sequence] = [shown[4], shown[8], shown[10]];
+            let area = 4 + 2 * entity + sequence + 1 + 8 + 8 * large;
+            let [count, end] = [shown[16], shown[17]];
+            shown.truncate(16);
+            shown.extend([area, end, count]);
+        }
+        Command::Reserve(_, pairs, _) => {
+            let [written, area, length] = [shown[14], shown[15], shown[16]];
+            shown.truncate(14);
+            shown.extend([*pairs as u64, area, area + length, written]);
+        }
+        Command::Finish(..) => {
+            shown.drain(14..17);
+        }
+        Command::Compare(..) => shown.push(u64::from(said == "ok equal")),
+        _ => (),
+    }
+    shown.insert(0, 0);
+    shown
+}
+
+/// The record of a command; `None` for one of the later requests, and for a lent buffer that is not
+/// filled with one byte.
+pub fn encoded(command: &Command, expected: &Expected) -> Option<Vec<u8>> {
+    use Command::*;
+    let mut to = Encoder(Vec::new());
+    let encoder = match command {
+        Crc(bytes) => to.code(1).bytes(bytes),
+        Header(bytes) => to.code(2).bytes(bytes),
+        Build(record) => to.code(3).header(record),
+        Verify(record, bytes) => to.code(4).header(record).bytes(bytes),
+        WriteHeader(record, buf) => to.code(5).header(record).buffer(buf)?,
+        Max(record, size) => to.code(6).header(record).number(*size as u64, 8),
+        Read(bytes) => to.code(7).bytes(bytes),
+        Write(nak, buf) => to.nak(8, nak, None).buffer(buf)?,
+        Reserve(record, pairs, buf) => {
+            let to = to.code(11).header(record).number(*pairs as u64, 8);
+            to.buffer(buf)?
+        }
+        Finish(record, pairs, scope, buf) => {
+            let to = to.code(12).header(record).scope(scope);
+            to.number(*pairs as u64, 8).buffer(buf)?
+        }
+        Compare(bytes, nak) => to.nak(13, nak, Some(bytes)),
+        _ => return None,
+    };
+    encoder.expected(command, expected);
+    Some(to.0)
+}
+
+struct Encoder(Vec<u8>);
+
+impl Encoder {
+    fn code(&mut self, code: u64) -> &mut Self {
+        self.number(code, 1)
+    }
+
+    fn number(&mut self, number: u64, size: usize) -> &mut Self {
+        self.0.extend_from_slice(&number.to_be_bytes()[8 - size..]);
+        self
+    }
+
+    fn header(&mut self, r: &Record) -> &mut Self {
+        let flags = [r.pdu_type, r.direction, r.mode, r.crc, r.large];
+        self.0.extend(flags);
+        self.0.extend([r.segmentation, r.metadata]);
+        let fields = [r.source, r.sequence, r.destination];
+        // A width above 255 is outside the domain.
+        self.0.extend(fields.map(|f| f.width as u8));
+        self.number(r.length.into(), 2);
+        fields.iter().for_each(|f| _ = self.number(f.value, 8));
+        self
+    }
+
+    fn scope(&mut self, scope: &Scope) -> &mut Self {
+        self.number(scope.start, 8).number(scope.end, 8)
+    }
+
+    fn bytes(&mut self, bytes: &[u8]) -> &mut Self {
+        self.number(bytes.len() as u64, 4);
+        self.0.extend_from_slice(bytes);
+        self
+    }
+
+    /// `code` is that of the command with no list.
+    fn nak(&mut self, code: u64, nak: &Nak, bytes: Option<&[u8]>) -> &mut Self {
+        let kind = match &nak.list {
+            List::None => 0,
+            List::Normal(_) => 1,
+            List::Large(_) => 2,
+        };
+        self.code(code + kind).header(&nak.record).scope(&nak.scope);
+        if let Some(bytes) = bytes {
+            self.bytes(bytes);
+        }
+        match &nak.list {
+            List::None => (),
+            List::Normal(numbers) => {
+                self.number(numbers.len() as u64, 4);
+                numbers.iter().for_each(|n| _ = self.number((*n).into(), 4));
+            }
+            List::Large(numbers) => {
+                self.number(numbers.len() as u64, 4);
+                numbers.iter().for_each(|n| _ = self.number(*n, 8));
+            }
+        }
+        self
+    }
+
+    fn buffer(&mut self, buf: &[u8]) -> Option<&mut Self> {
+        let fill = buf.first().copied().unwrap_or(0);
+        if buf.iter().any(|b| *b != fill) {
+            return None;
+        }
+        Some(self.number(buf.len() as u64, 4).number(fill.into(), 1))
+    }
+
+    fn expected(&mut self, command: &Command, expected: &Expected) {
+        self.number(expected.answer.len() as u64, 1);
+        expected.answer.iter().for_each(|n| _ = self.number(*n, 8));
+        if let Some(buf) = &expected.buf {
+            let before = lent(command);
+            let same = buf.iter().rev().zip(before.iter().rev());
+            let unchanged = same.take_while(|(after, before)| after == before).count();
+            self.bytes(&buf[..buf.len() - unchanged]);
+        }
+        if let Command::Read(_) = command {
+            self.number(expected.requests.len() as u64 / 2, 4);
+            expected
+                .requests
+                .iter()
+                .for_each(|n| _ = self.number(*n, 8));
+        }
+    }
+}
+
+/// The buffer that a command lends to be written, before the call.
+pub fn lent(command: &Command) -> &[u8] {
+    use Command::*;
+    match command {
+        WriteHeader(_, buf) | Write(_, buf) | Reserve(_, _, buf) | Finish(_, _, _, buf) => buf,
+        _ => &[],
+    }
+}
