@@ -22,6 +22,8 @@ use header::TransmissionMode;
 use nak::write::WriteResult;
 
 pub mod headers;
+pub mod read;
+pub mod write;
 
 // A header from its numbers; nothing of it is judged here.
 fn header_from(shape: &[u8; 10], length: u16, ids: &[u64; 3]) -> PduHeader
