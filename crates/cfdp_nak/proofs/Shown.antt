@@ -16,8 +16,9 @@ use Rattle.fields.specs.Answer.{Answer, accepted, short, refused, told}
 use Rattle.fields.proofs.OneToOne.{numbers-paper}
 use Rattle.header.specs.declared.PduHeader.{PduHeader}
 use Rattle.header.specs.Flags.{pduTypeBit, directionBit, modeBit, crcBit, fileBit, controlBit, metadataBit}
-use Rattle.header.specs.Header.{headerLength}
-use Rattle.cfdp_nak.specs.Shown.{padded, answerSize, answerNumbers, shown, refusalShown, headerNumbers, readHeaderNumbers}
+use Rattle.header.specs.Header.{headerLength, pduLength}
+use Rattle.nak.specs.declared.reserve.ReservedNak.{ReservedNak}
+use Rattle.cfdp_nak.specs.Shown.{padded, answerSize, answerNumbers, shown, refusalShown, headerNumbers, readHeaderNumbers, reservedNumbers}
 
 -- up to three numbers, and zeros behind them
 few : (ns : List ℕ) → length ns ≤ 3 → padded answerSize ns ≡ padded answerSize (getD ns 0 0 ∷ getD ns 1 0 ∷ getD ns 2 0 ∷ [])
@@ -71,3 +72,8 @@ header-numbers h rest t d m c f g s et ed em ec ef eg es = rw (et, ed, em, ec, e
 -- a header that was read is shown with its length
 pub read-header-shown : (h : PduHeader) (n : ℕ) (o : Answer PduHeader) (out : List ℕ) → accepted h ≡ o → n ≡ headerLength h → out ≡ 0 ∷ (headerNumbers h ++ (n ∷ 0 ∷ 0 ∷ 0 ∷ 0 ∷ [])) → out ≡ shown readHeaderNumbers o
 read-header-shown h n o out e l p = accepted-shown readHeaderNumbers h o out e (p ∙ ap (λ (k : ℕ). 0 ∷ (headerNumbers h ++ (k ∷ 0 ∷ 0 ∷ 0 ∷ 0 ∷ []))) l)
+
+-- a NAK that was reserved is shown with the length that it will have
+pub reserved-shown : (r : ReservedNak) (n : ℕ) (o : Answer ReservedNak) (out : List ℕ) → accepted r ≡ o → n ≡ pduLength (r .header) → out ≡ 0 ∷ (headerNumbers (r .header) ++ (r .count ∷ r .area ∷ r .stop ∷ n ∷ 0 ∷ []))
+    → out ≡ shown reservedNumbers o
+reserved-shown r n o out e l p = accepted-shown reservedNumbers r o out e (p ∙ ap (λ (k : ℕ). 0 ∷ (headerNumbers (r .header) ++ (r .count ∷ r .area ∷ r .stop ∷ k ∷ 0 ∷ []))) l)

@@ -6,6 +6,7 @@ use lib.Dec.{eqb}
 use lib.ListN.{getD}
 use Rattle.header.specs.declared.PduHeader.{PduHeader}
 use Rattle.header.specs.Flags.{pduTypeIf, directionIf, modeIf, crcIf, fileIf, controlIf, metadataIf}
+use Rattle.nak.specs.declared.reserve.ReservedNak.{ReservedNak}
 
 -- a flag is set where its byte is not 0
 abbrev pub isOn : List ℕ → ℕ → Bool
@@ -31,3 +32,7 @@ headerFrom shape d ids =
 -- the header of a NAK that is to be written, whose length is worked out and not given
 abbrev pub nakHeader : List ℕ → List ℕ → PduHeader
 nakHeader shape ids = headerFrom shape 0 ids
+
+-- a NAK that was reserved: its header and its pairs; where its area lies is worked out anew
+abbrev pub reservedFrom : List ℕ → List ℕ → ℕ → ReservedNak
+reservedFrom shape ids pairs = record { header = nakHeader shape ids; count = pairs; area = 0; stop = 0 }

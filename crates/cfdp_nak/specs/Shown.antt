@@ -6,8 +6,9 @@ use Rattle.fields.specs.Refusal.{paper}
 use Rattle.fields.specs.Answer.{Answer, accepted, short, refused}
 use Rattle.header.specs.declared.PduHeader.{PduHeader}
 use Rattle.header.specs.Flags.{pduTypeBit, directionBit, modeBit, crcBit, fileBit, controlBit, metadataBit}
-use Rattle.header.specs.Header.{headerLength}
+use Rattle.header.specs.Header.{headerLength, pduLength}
 use Rattle.nak.specs.declared.Nak.{Nak}
+use Rattle.nak.specs.declared.reserve.ReservedNak.{ReservedNak}
 use Rattle.nak.specs.declared.write.NakWritten.{NakWritten}
 
 -- the first n of the numbers, and 0 where there are fewer
@@ -67,3 +68,7 @@ nakNumbers n = headerNumbers (n .header) ++ (n .start ∷ n .end ∷ n .area ∷
 -- a NAK that was written: the header handed back, and the written length
 abbrev pub writtenNumbers : NakWritten → List ℕ
 writtenNumbers w = headerNumbers (w .header) ++ (w .length ∷ [])
+
+-- a NAK that was reserved: the header handed back, its pairs, where its request area starts and stops, the length that it will have
+abbrev pub reservedNumbers : ReservedNak → List ℕ
+reservedNumbers r = headerNumbers (r .header) ++ (r .count ∷ r .area ∷ r .stop ∷ pduLength (r .header) ∷ [])

@@ -23,6 +23,7 @@ use nak::write::WriteResult;
 
 pub mod headers;
 pub mod read;
+pub mod reserve;
 pub mod write;
 
 // A header from its numbers; nothing of it is judged here.
