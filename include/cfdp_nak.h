@@ -100,6 +100,19 @@ void cfdp_nak_write_normal(const uint8_t shape[10], const uint64_t ids[3], uint6
 void cfdp_nak_write_large(const uint8_t shape[10], const uint64_t ids[3], uint64_t start, uint64_t end,
                           const uint64_t *numbers, size_t count, uint8_t *buf, size_t buf_len, uint64_t answer[20]);
 
+/* ---- reserving room for pairs, and finishing the NAK around them */
+
+/* Reserves room for that many pairs in buf and changes no byte, the large file flag as given: HEADER, the pairs, where the
+   request area starts, where it ends, the length that the NAK will have; or 13, 3, 4, 14, 10, 11. The caller stores the
+   pairs' numbers big-endian, 8 bytes each with the flag, else 4, from buf + answer[16] up to buf + answer[17]. */
+void cfdp_nak_reserve(const uint8_t shape[10], const uint64_t ids[3], size_t pairs, const uint8_t *buf, size_t buf_len,
+                      uint64_t answer[20]);
+
+/* Writes header, directive, scope and checksum around the pairs that the caller stored, given what reserving was given, which
+   is judged anew: HEADER, the written length; or 13, 3, 4, 14, 10, 9, 11. */
+void cfdp_nak_finish(const uint8_t shape[10], const uint64_t ids[3], size_t pairs, uint64_t start, uint64_t end,
+                     uint8_t *buf, size_t buf_len, uint64_t answer[20]);
+
 /* How many pairs a NAK has at most in a packet of that many bytes, by the size alone: the count; or 13, 3, 4, 14, 15. */
 void cfdp_nak_most(const uint8_t shape[10], const uint64_t ids[3], size_t packet, uint64_t answer[20]);
 

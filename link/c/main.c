@@ -1,4 +1,5 @@
-/* Calls libcfdp_nak.a from C with document 01's NAK N: reads it, prints it, writes it back, and has a reading and a writing refused. */
+/* Calls libcfdp_nak.a from C with document 01's NAK N: reads it, prints it, writes it back in both ways, and
+   has a reading and a writing refused. */
 #include <inttypes.h>
 #include <stdio.h>
 #include <string.h>
@@ -27,12 +28,24 @@ static void list(const uint8_t *bytes, size_t length) {
     printf("end %" PRIu64 "\n", answer[STOP]);
 }
 
-/* N from its numbers: flags clear, widths 1; the direction bit is the writer's */
+/* N's numbers: flags clear, widths 1; the direction bit is the writer's */
+static const uint8_t shape[10] = {0, 0, 0, 0, 0, 0, 0, 1, 1, 1};
+static const uint64_t ids[3] = {1, 2, 3};
+
 static void write_n(uint8_t *buf, size_t length, uint64_t answer[20]) {
-    static const uint8_t shape[10] = {0, 0, 0, 0, 0, 0, 0, 1, 1, 1};
-    static const uint64_t ids[3] = {1, 2, 3};
     static const uint32_t numbers[2] = {100, 200};
     cfdp_nak_write_normal(shape, ids, 0, 1000, numbers, 2, buf, length, answer);
+}
+
+static const char *same(const uint8_t *buf) { return memcmp(buf, N, sizeof N) == 0 ? "the same bytes" : "other bytes"; }
+
+/* the pairs' bytes go into the reserved area before the rest is written */
+static void finish_n(uint8_t buf[24]) {
+    uint64_t place[20], answer[20];
+    cfdp_nak_reserve(shape, ids, 1, buf, 24, place);
+    memcpy(buf + place[16], N + 16, place[17] - place[16]);
+    cfdp_nak_finish(shape, ids, 1, 0, 1000, buf, 24, answer);
+    printf("reserved %" PRIu64 " to %" PRIu64 ", finished %" PRIu64 ", %s\n", place[16], place[17], answer[15], same(buf));
 }
 
 int main(void) {
@@ -42,7 +55,9 @@ int main(void) {
     uint8_t buf[24] = {0};
     uint64_t answer[20];
     write_n(buf, sizeof buf, answer);
-    printf("written %" PRIu64 ", %s\n", answer[15], memcmp(buf, N, sizeof N) == 0 ? "the same bytes" : "other bytes");
+    printf("written %" PRIu64 ", %s\n", answer[15], same(buf));
+    memset(buf, 0, sizeof buf);
+    finish_n(buf);
 
     list(N, 23);
 

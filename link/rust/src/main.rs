@@ -1,5 +1,5 @@
-// Calls libcfdp_nak.a from Rust with document 01's NAK N: reads it, prints it, writes it back, and has a reading and a
-// writing refused.
+// Calls libcfdp_nak.a from Rust with document 01's NAK N: reads it, prints it, writes it back in both ways,
+// and has a reading and a writing refused.
 
 // `include/cfdp_nak.h`: a slice is a pointer and a length, an array is a pointer.
 extern "C" {
@@ -19,6 +19,24 @@ extern "C" {
         end: u64,
         numbers: *const u32,
         count: usize,
+        buf: *mut u8,
+        buf_len: usize,
+        answer: *mut [u64; 20],
+    );
+    fn cfdp_nak_reserve(
+        shape: *const [u8; 10],
+        ids: *const [u64; 3],
+        pairs: usize,
+        buf: *const u8,
+        buf_len: usize,
+        answer: *mut [u64; 20],
+    );
+    fn cfdp_nak_finish(
+        shape: *const [u8; 10],
+        ids: *const [u64; 3],
+        pairs: usize,
+        start: u64,
+        end: u64,
         buf: *mut u8,
         buf_len: usize,
         answer: *mut [u64; 20],
@@ -60,15 +78,17 @@ fn list(bytes: &[u8]) {
     println!("end {}", answer[18]);
 }
 
-// N from its numbers: flags clear, widths 1; the direction bit is the writer's.
+// N's numbers: flags clear, widths 1; the direction bit is the writer's.
+const SHAPE: [u8; 10] = [0, 0, 0, 0, 0, 0, 0, 1, 1, 1];
+const IDS: [u64; 3] = [1, 2, 3];
+
 fn write_n(buf: &mut [u8]) -> [u64; 20] {
-    let shape = [0, 0, 0, 0, 0, 0, 0, 1, 1, 1];
     let numbers = [100, 200];
     let mut answer = [0; 20];
     unsafe {
         cfdp_nak_write_normal(
-            &shape,
-            &[1, 2, 3],
+            &SHAPE,
+            &IDS,
             0,
             1000,
             numbers.as_ptr(),
@@ -81,6 +101,21 @@ fn write_n(buf: &mut [u8]) -> [u64; 20] {
     answer
 }
 
+fn same(buf: &[u8]) -> &'static str {
+    if buf == N { "the same bytes" } else { "other bytes" }
+}
+
+// The pairs' bytes go into the reserved area before the rest is written.
+fn finish_n(buf: &mut [u8]) {
+    let mut place = [0; 20];
+    unsafe { cfdp_nak_reserve(&SHAPE, &IDS, 1, buf.as_ptr(), buf.len(), &mut place) };
+    let (area, stop) = (place[16] as usize, place[17] as usize);
+    buf[area..stop].copy_from_slice(&N[area..stop]);
+    let mut answer = [0; 20];
+    unsafe { cfdp_nak_finish(&SHAPE, &IDS, 1, 0, 1000, buf.as_mut_ptr(), buf.len(), &mut answer) };
+    println!("reserved {area} to {stop}, finished {}, {}", answer[15], same(buf));
+}
+
 fn main() {
     let digits = b"123456789";
     println!("checksum {:x}", unsafe { cfdp_checksum(digits.as_ptr(), digits.len()) });
@@ -88,8 +123,8 @@ fn main() {
 
     let mut buf = [0; 24];
     let answer = write_n(&mut buf);
-    let words = if buf == N { "the same bytes" } else { "other bytes" };
-    println!("written {}, {words}", answer[15]);
+    println!("written {}, {}", answer[15], same(&buf));
+    finish_n(&mut [0; 24]);
 
     list(&N[..23]);
 
