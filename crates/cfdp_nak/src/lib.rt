@@ -129,10 +129,6 @@ fn show_header(header: PduHeader, a: u64, b: u64, c: u64, d: u64, e: u64, answer
     let source = header.source.0;
     let sequence = header.sequence.0;
     let destination = header.destination.0;
-    let length = header.length as u64;
-    let first_width = source.width as u64;
-    let second_width = sequence.width as u64;
-    let third_width = destination.width as u64;
     let kind_bit = kind.bit() as u64;
     let direction_bit = direction.bit() as u64;
     let mode_bit = mode.bit() as u64;
@@ -149,12 +145,12 @@ fn show_header(header: PduHeader, a: u64, b: u64, c: u64, d: u64, e: u64, answer
         file_bit,
         control_bit,
         metadata_bit,
-        length,
-        first_width,
+        header.length as u64,
+        source.width as u64,
         source.value,
-        second_width,
+        sequence.width as u64,
         sequence.value,
-        third_width,
+        destination.width as u64,
         destination.value,
         a,
         b,

@@ -8,18 +8,6 @@ use borrow.Author.Needs.{needs}
 use Rattle.cfdp_nak.proofs.show_header.Statement.{statement}
 use Rattle.cfdp_nak.proofs.show_header.Tie as tie
 
-cast-length : tie.Need-cast-length
-cast-length c = search needs
-
-cast-first-width : tie.Need-cast-first-width
-cast-first-width c = search needs
-
-cast-second-width : tie.Need-cast-second-width
-cast-second-width c = search needs
-
-cast-third-width : tie.Need-cast-third-width
-cast-third-width c = search needs
-
 bit-requires : tie.Need-bit-requires
 bit-requires c κs = search needs
 
@@ -62,18 +50,26 @@ bit-requires-7 c κs = search needs
 cast-metadata-bit : tie.Need-cast-metadata-bit
 cast-metadata-bit c = search needs
 
+cast-t26 : tie.Need-cast-t26
+cast-t26 c = search needs
+
+cast-t27 : tie.Need-cast-t27
+cast-t27 c = search needs
+
+cast-t28 : tie.Need-cast-t28
+cast-t28 c = search needs
+
+cast-t29 : tie.Need-cast-t29
+cast-t29 c = search needs
+
 returns : tie.Need-returns
 returns c =
-    ap (λ (ns : List ℕ). 0 ∷ ns) (header-numbers (c .before .before .before .before .before .before .before .before .before .before .before .before .before .before .before .args .header) _ _ _ _ _ _ _ _ (c .before .before .before .before .before .before .before .bit .ensures .0) (c .before .before .before .before .before .before .bit2 .ensures .0) (c .before .before .before .before .before .bit3 .ensures .0) (c .before .before .before .before .bit4 .ensures .0) (c .before .before .before .bit5 .ensures .0) (c .before .before .bit6 .ensures .0) (c .before .bit7 .ensures .0))
+    ap (λ (ns : List ℕ). 0 ∷ ns) (header-numbers (c .before .before .before .before .before .before .before .before .before .before .before .before .before .before .before .args .header) _ _ _ _ _ _ _ _ (c .before .before .before .before .before .before .before .before .before .before .before .bit .ensures .0) (c .before .before .before .before .before .before .before .before .before .before .bit2 .ensures .0) (c .before .before .before .before .before .before .before .before .before .bit3 .ensures .0) (c .before .before .before .before .before .before .before .before .bit4 .ensures .0) (c .before .before .before .before .before .before .before .bit5 .ensures .0) (c .before .before .before .before .before .before .bit6 .ensures .0) (c .before .before .before .before .before .bit7 .ensures .0))
 
 pub show-header-spec : {M : Type 1} → statement M
 show-header-spec =
     tie.close
     (tie.spec
-    cast-length
-    cast-first-width
-    cast-second-width
-    cast-third-width
     bit-requires
     cast-kind-bit
     bit-requires-2
@@ -88,4 +84,8 @@ show-header-spec =
     cast-control-bit
     bit-requires-7
     cast-metadata-bit
+    cast-t26
+    cast-t27
+    cast-t28
+    cast-t29
     returns)
