@@ -11,6 +11,7 @@ not_run() {
 
 [ "$(uname -m)" = x86_64 ] || not_run "the archive is for x86-64"
 command -v cc >/dev/null || not_run "no cc"
+command -v nm >/dev/null || not_run "no nm"
 command -v cargo >/dev/null || not_run "no cargo"
 
 out=target/link
