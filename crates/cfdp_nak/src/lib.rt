@@ -57,62 +57,28 @@ fn header_from(shape: &[u8; 10], length: u16, ids: &[u64; 3]) -> PduHeader
     }
 }
 
+// Up to three numbers, and zeros behind them.
+fn show_few(first: u64, second: u64, third: u64, answer: &mut [u64; 20])
+    ensures { λ _. ⌜ now (answer .exit) ≡ padded answerSize (first ∷ second ∷ third ∷ []) ⌝ }
+{
+    *answer = [0; 20];
+    answer[0] = first;
+    answer[1] = second;
+    answer[2] = third;
+}
+
 fn show_refusal(refusal: Refusal, answer: &mut [u64; 20])
     ensures { λ _. ⌜ now (answer .exit) ≡ refusalShown refusal ⌝ }
 {
     let n = refusal.numbers();
-    let number = n.number as u64;
-    *answer = [
-        number,
-        n.first,
-        n.second,
-        0,
-        0,
-        0,
-        0,
-        0,
-        0,
-        0,
-        0,
-        0,
-        0,
-        0,
-        0,
-        0,
-        0,
-        0,
-        0,
-        0,
-    ];
+    show_few(n.number as u64, n.first, n.second, answer)
 }
 
 // A length or a count.
 fn show_number(value: usize, answer: &mut [u64; 20])
     ensures { λ _. ⌜ now (answer .exit) ≡ padded answerSize (0 ∷ value ∷ []) ⌝ }
 {
-    let number = value as u64;
-    *answer = [
-        0,
-        number,
-        0,
-        0,
-        0,
-        0,
-        0,
-        0,
-        0,
-        0,
-        0,
-        0,
-        0,
-        0,
-        0,
-        0,
-        0,
-        0,
-        0,
-        0,
-    ];
+    show_few(0, value as u64, 0, answer)
 }
 
 // A header, and up to five numbers behind it.
