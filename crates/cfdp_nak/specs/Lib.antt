@@ -1,0 +1,4 @@
+-- The definitions that the promises cite: how a header goes in as numbers, and how an answer comes out as numbers.
+pub mod Given
+pub mod Shown
+pub mod Pairs

@@ -1,0 +1,86 @@
+// Writing a NAK, with no list, normal pairs or large pairs, and how many pairs a packet holds.
+ghost use mathlib.Core.Path.{_≡_};
+ghost use mathlib.Core.List.{[]};
+ghost use lib.ListN.{length};
+ghost use Rattle.nak.specs.Counting.{mostRequests};
+ghost use Rattle.nak.specs.Writing.{writingNak, nakMemory};
+ghost use Rattle.cfdp_nak.specs.Given.{nakHeader};
+ghost use Rattle.cfdp_nak.specs.Shown.{shown, oneNumber, writtenNumbers};
+use crate::header_from;
+use crate::show_number;
+use crate::show_refusal;
+use crate::show_written;
+use header::LargeFileFlag;
+use nak::count;
+use nak::count::CountResult;
+use nak::write;
+
+#[no_mangle]
+pub extern "C" fn cfdp_nak_write(
+    shape: &[u8; 10],
+    ids: &[u64; 3],
+    start: u64,
+    end: u64,
+    buf: &mut [u8],
+    answer: &mut [u64; 20],
+)
+    ensures answered { λ _. ⌜ now (answer .exit) ≡ shown writtenNumbers (writingNak (nakHeader (now (shape .entry)) (now (ids .entry)) .file) (nakHeader (now (shape .entry)) (now (ids .entry))) start end 0 (length (now (buf .entry)))) ⌝ }
+    ensures stored { λ _. ⌜ now (buf .exit) ≡ nakMemory (nakHeader (now (shape .entry)) (now (ids .entry)) .file) (nakHeader (now (shape .entry)) (now (ids .entry))) start end [] (now (buf .entry)) ⌝ }
+{
+    let header = header_from(shape, 0, ids);
+    let written = write::write_no_segment_requests(header, start, end, buf);
+    show_written(written, answer);
+}
+
+#[no_mangle]
+pub extern "C" fn cfdp_nak_write_normal(
+    shape: &[u8; 10],
+    ids: &[u64; 3],
+    start: u64,
+    end: u64,
+    numbers: &[u32],
+    buf: &mut [u8],
+    answer: &mut [u64; 20],
+)
+    ensures answered { λ _. ⌜ now (answer .exit) ≡ shown writtenNumbers (writingNak LargeFileFlag.Normal (nakHeader (now (shape .entry)) (now (ids .entry))) start end (length (now (numbers .entry))) (length (now (buf .entry)))) ⌝ }
+    ensures stored { λ _. ⌜ now (buf .exit) ≡ nakMemory LargeFileFlag.Normal (nakHeader (now (shape .entry)) (now (ids .entry))) start end (now (numbers .entry)) (now (buf .entry)) ⌝ }
+{
+    let header = header_from(shape, 0, ids);
+    let written = write::write_normal_file_size(header, start, end, numbers, buf);
+    show_written(written, answer);
+}
+
+#[no_mangle]
+pub extern "C" fn cfdp_nak_write_large(
+    shape: &[u8; 10],
+    ids: &[u64; 3],
+    start: u64,
+    end: u64,
+    numbers: &[u64],
+    buf: &mut [u8],
+    answer: &mut [u64; 20],
+)
+    ensures answered { λ _. ⌜ now (answer .exit) ≡ shown writtenNumbers (writingNak LargeFileFlag.Large (nakHeader (now (shape .entry)) (now (ids .entry))) start end (length (now (numbers .entry))) (length (now (buf .entry)))) ⌝ }
+    ensures stored { λ _. ⌜ now (buf .exit) ≡ nakMemory LargeFileFlag.Large (nakHeader (now (shape .entry)) (now (ids .entry))) start end (now (numbers .entry)) (now (buf .entry)) ⌝ }
+{
+    let header = header_from(shape, 0, ids);
+    let written = write::write_large_file_size(header, start, end, numbers, buf);
+    show_written(written, answer);
+}
+
+#[no_mangle]
+pub extern "C" fn cfdp_nak_most(
+    shape: &[u8; 10],
+    ids: &[u64; 3],
+    packet: usize,
+    answer: &mut [u64; 20],
+)
+    ensures { λ _. ⌜ now (answer .exit) ≡ shown oneNumber (mostRequests (nakHeader (now (shape .entry)) (now (ids .entry))) packet) ⌝ }
+{
+    let header = header_from(shape, 0, ids);
+    let most = count::calculate_max_segment_requests(packet, header);
+    match most {
+        CountResult::Refused(refusal) => show_refusal(refusal, answer),
+        CountResult::Count(pairs) => show_number(pairs, answer),
+    }
+}

@@ -1,0 +1,7 @@
+// Links the archive that `rt staticlib cfdp_nak` wrote.
+fn main() {
+    let archives = concat!(env!("CARGO_MANIFEST_DIR"), "/../../target/staticlib");
+    println!("cargo:rustc-link-search=native={archives}");
+    println!("cargo:rustc-link-lib=static=cfdp_nak");
+    println!("cargo:rerun-if-changed={archives}/libcfdp_nak.a");
+}
