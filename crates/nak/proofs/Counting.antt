@@ -6,7 +6,8 @@ use mathlib.Core.List.{List, [], _∷_}
 use native.Mathlib.Omega.{arith}
 use borrow.Author.Tests.{lt-ltb, le-ltb}
 use Rattle.fields.specs.Answer.{accepted, told, firstOf}
-use Rattle.fields.proofs.Judging.{Passed, passed-on, refused-on}
+use Rattle.fields.proofs.Judging.{Passed, passed-on}
+use Rattle.header.proofs.Judging.{refused-first}
 use Rattle.header.specs.declared.PduHeader.{PduHeader}
 use Rattle.header.specs.Flags.{crcBit}
 use Rattle.header.specs.Header.{headerLength}
@@ -19,8 +20,8 @@ unfolding leastPacket areaStart
 least-is h a w b p q r = rw (p, q, r)
 
 pub refused-count : (h : PduHeader) (size : ℕ) (ns : List ℕ) → told ns ≡ building h → told ns ≡ mostRequests h size
-unfolding building mostRequests
-refused-count h size ns e = refused-on ns (recordTests h) (packetTooSmall h size ∷ []) h _ e
+unfolding mostRequests
+refused-count h size ns e = refused-first h (packetTooSmall h size ∷ []) _ ns e
 
 module _ (h : PduHeader) (size : ℕ) (good : Passed (recordTests h)) (least : ℕ) (is : least ≡ leastPacket h) where
   rest : mostRequests h size ≡ firstOf (packetTooSmall h size ∷ []) ((size - leastPacket h) / pairSize (h .file))

@@ -134,7 +134,7 @@ in-bytes h p s l m =
     let n = nakIn h p in
     let a : areaOf n s ≡ take (dataEnd h - areaStart h) (drop (areaStart h) s) = sym (within n s l m) in
     let k : length (areaOf n s) ≡ dataEnd h - areaStart h = ap length a ∙ simp (length-take, length-drop) (omega arith) in
-    record { area = a; inside = m; count = pairs-count (h .file) (areaOf n s) ∙ ap (λ (j : ℕ). j / pairSize (h .file)) k }
+    record { from = refl; up-to = refl; area = a; inside = m; count = pairs-count (h .file) (areaOf n s) ∙ ap (λ (j : ℕ). j / pairSize (h .file)) k }
 
 pub accepted-shows : AcceptedShows
 unfolding readingNak readingData

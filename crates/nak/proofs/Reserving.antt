@@ -16,6 +16,7 @@ use Rattle.header.specs.Flags.{crcBit}
 use Rattle.header.specs.Header.{pduLength, dataEnd}
 use Rattle.header.specs.Judging.{recordTests, building}
 use Rattle.header.specs.Verifying.{crcAdded}
+use Rattle.header.proofs.Judging.{refused-first}
 use Rattle.header.proofs.Verifying.{end-sum}
 use Rattle.nak.specs.declared.write.NakWritten.{NakWritten}
 use Rattle.nak.specs.declared.reserve.ReservedNak.{ReservedNak}
@@ -28,8 +29,8 @@ use Rattle.nak.proofs.Writing.{ToWrite, to-write, judged-nak, into-room
 
 module _ (h : PduHeader) (n : ℕ) where
   pub refused-pairs : (ns : List ℕ) → told ns ≡ building h → told ns ≡ judgingPairs h n
-  unfolding building judgingPairs pairTests
-  refused-pairs ns e = refused-on ns (recordTests h) _ h _ e
+  unfolding judgingPairs pairTests
+  refused-pairs ns e = refused-first h _ _ ns e
 
   module _ (good : Passed (recordTests h)) (most : ℕ) (pm : most ≡ mostPairs (h .file)) where
     rest : judgingPairs h n ≡ firstOf (tooMany (h .file) n ∷ []) (keeping h n)

@@ -13,11 +13,12 @@ use borrow.Author.Tests.{le-leb, leb-true, eq-eqb, eqb-true, not-false}
 use Rattle.fields.specs.BigEndian.{beBytes, numberAt}
 use Rattle.fields.specs.Answer.{Answer, accepted, short, refused, andThen, Test, firstOf, leaves}
 use Rattle.fields.specs.Staged.{run}
-use Rattle.fields.proofs.BigEndian.{be-length, number-back}
+use Rattle.fields.proofs.BigEndian.{be-length, number-back, number-drop, one-byte}
 use Rattle.fields.proofs.Judging.{Passed, passed, passed-first, passed-last, all-passed, same-accepted}
 use Rattle.fields.proofs.Staged.{run-bind}
 use Rattle.header.specs.declared.PduHeader.{PduHeader}
 use Rattle.header.specs.declared.flags.Direction.the-variants.{TowardsSender}
+use Rattle.header.specs.declared.flags.CrcFlag.the-variants.{NoCrc, WithCrc}
 use Rattle.header.specs.declared.flags.LargeFileFlag.{LargeFileFlag}
 use Rattle.header.specs.declared.flags.LargeFileFlag.the-variants.{Normal, Large}
 use Rattle.header.specs.Flags.{crcBit}
@@ -44,7 +45,7 @@ use Rattle.nak.specs.Requests.{areaOf, pairsFrom, pairsOf}
 use Rattle.nak.specs.Writing.{numbersBytes, startBytes, nakOver, nakBytes, dataLength, mostPairs, filled, scopeFits, oddCount, scopeTooLarge, tooMany, nakTests, noRoom, judgingNak, intoRoom, writingNak, nakMemory}
 use Rattle.nak.specs.Reserving.{pairTests, keeping, placed, reserving, finishing, areaIn, finishedMemory}
 use Rattle.nak.specs.Comparing.{sameNak, holdsNumbers, likening, comparing}
-use Rattle.nak.specs.Demands.{byTurns, Lent, readAs, ReadsBack, WrittenReadsBack, CodeReadsBack, Written, FinishedIsWritten, ComparingSaysYes, Equals, YesMeansEqual}
+use Rattle.nak.specs.Demands.{byTurns, Lent, readAs, ReadsBack, MostPairsFit, WrittenReadsBack, CodeReadsBack, Written, FinishedIsWritten, ComparingSaysYes, Equals, YesMeansEqual}
 use Rattle.nak.proofs.Reading.{scope-whole, nak-code, verified-data, read-header}
 use Rattle.nak.proofs.Walking.{within}
 use Rattle.nak.proofs.Writing.{ToWrite, to-write, scope-fits, pairs-bytes, doubled, start-length, numbers-length, filled-flag}
@@ -80,6 +81,15 @@ unfolding pairsOf
 pairs-back file ns e h =
     ap (pairsFrom (offsetWidth file) (numbersBytes (offsetWidth file) ns) 0) (ap (λ (j : ℕ). j / pairSize file) (numbers-length (offsetWidth file) ns) ∙ halves file (length ns) e)
     ∙ pairs-at (offsetWidth file) (length ns / 2) [] ns e h
+
+-- ---- how many pairs fit
+
+pub most-pairs-fit : MostPairsFit
+unfolding dataLength
+most-pairs-fit Normal NoCrc = record { fit = λ n l. omega arith; more = λ n l. omega arith }
+most-pairs-fit Normal WithCrc = record { fit = λ n l. omega arith; more = λ n l. omega arith }
+most-pairs-fit Large NoCrc = record { fit = λ n l. omega arith; more = λ n l. omega arith }
+most-pairs-fit Large WithCrc = record { fit = λ n l. omega arith; more = λ n l. omega arith }
 
 -- ---- a NAK over an area of whole pairs
 
@@ -130,10 +140,12 @@ module _ (k : PduHeader) (start end count : ℕ) (area t : List ℕ) (good : Pas
   S = checksumBytes (k .crc) (startBytes k start end ++ area)
 
   code-at : getD N (headerLength k) 0 ≡ 8
-  unfolding N nakOver startBytes beBytes
+  unfolding N nakOver startBytes
   code-at =
-      let s : N ≡ headerBytes k ++ 8 ∷ (beBytes W start ++ (beBytes W end ++ (area ++ S))) = simp append-assoc in
-      ap (λ (x : List ℕ). getD x (headerLength k) 0) s ∙ getD-at (headerBytes k) 8 _ 0 (headerLength k) (header-length k)
+      let tail = beBytes W start ++ (beBytes W end ++ (area ++ S)) in
+      let s : N ≡ headerBytes k ++ (beBytes 1 nakCode ++ tail) = simp append-assoc in
+      let c : headerBytes k ++ (beBytes 1 nakCode ++ tail) ≡ headerBytes k ++ (8 ∷ tail) = ap (λ (x : List ℕ). headerBytes k ++ (x ++ tail)) (one-byte nakCode (lit< tt)) in
+      ap (λ (x : List ℕ). getD x (headerLength k) 0) (s ∙ c) ∙ getD-at (headerBytes k) 8 _ 0 (headerLength k) (header-length k)
 
   start-at : numberAt N (headerLength k + 1) W ≡ start
   unfolding N nakOver startBytes
@@ -228,7 +240,9 @@ unfolding nakMemory
 code-reads-back file h start end numbers s w r lent e q =
     let m : nakMemory file h start end numbers s ≡ nakBytes (w .header) start end numbers ++ drop (length (nakBytes (w .header) start end numbers)) s =
     ap (λ (o : Answer NakWritten). leaves o (λ (x : NakWritten). nakBytes (x .header) start end numbers) s) e in
-    one-nak-result r _ (q ∙ ap (run readingNak) m ∙ written-reads-back file h start end (length s) numbers _ w lent e .read)
+    let b = written-reads-back file h start end (length s) numbers (drop (length (nakBytes (w .header) start end numbers)) s) w lent e in
+    let n = readAs (w .header) start end (length numbers / 2) in
+    (one-nak-result r (Read n) (q ∙ ap (run readingNak) m ∙ b .read), ap (λ (x : List ℕ). pairsOf (w .header .file) (areaOf n x)) m ∙ b .pairs)
 
 -- ---- what was reserved, filled and finished was written
 
@@ -311,29 +325,39 @@ comparing-says-yes file h start end room numbers t w lent e =
 
 -- ---- and yes means equal numbers
 
--- an area that holds the numbers is as long as they are, and its pairs are they
+-- an area that holds numbers holds the first, and behind it the others
+record Holds (w : ℕ) (area : List ℕ) (n : ℕ) (ns : List ℕ) : Type 0 where
+  long : w ≤ length area
+  number : numberAt area 0 w ≡ n
+  others : holdsNumbers w (drop w area) ns ≡ true
+
+holds-first : (w : ℕ) (area : List ℕ) (n : ℕ) (ns : List ℕ) → holdsNumbers w area (n ∷ ns) ≡ true → Holds w area n ns
+unfolding holdsNumbers
+holds-first w area n ns e =
+    let p = both-true (leb w (length area) && eqb (numberAt area 0 w) n) (holdsNumbers w (drop w area) ns) e in
+    let q = both-true (leb w (length area)) (eqb (numberAt area 0 w) n) (p .0) in
+    record { long = leb-true w (length area) (q .0); number = eqb-true (numberAt area 0 w) n (q .1); others = p .1 }
+
+-- so it is as long as they are, and its pairs are they
 holds-length : (w : ℕ) (area ns : List ℕ) → holdsNumbers w area ns ≡ true → length area ≡ w * length ns
 unfolding holdsNumbers
 holds-length w area [] e = eqb-true (length area) 0 e ∙ omega arith
 holds-length w area (n ∷ ns) e =
-    let p = both-true _ _ e in
-    let q = both-true _ _ (p .0) in
-    let l : w ≤ length area = leb-true w (length area) (q .0) in
-    omega (arith, holds-length w (drop w area) ns (p .1), length-drop w area)
+    let p = holds-first w area n ns e in
+    omega (arith, p .long, holds-length w (drop w area) ns (p .others), length-drop w area)
 
 holds-pairs : (w n : ℕ) (area ns : List ℕ) (at : ℕ) → length ns ≡ 2 * n → holdsNumbers w (drop at area) ns ≡ true → pairsFrom w area at n ≡ byTurns ns
-unfolding holdsNumbers numberAt
 holds-pairs w zero area [] at e h = refl
 holds-pairs w zero area (a ∷ ns) at e h = absurd (omega arith)
 holds-pairs w (suc n) area [] at e h = absurd (omega arith)
 holds-pairs w (suc n) area (a ∷ []) at e h = absurd (omega arith)
 holds-pairs w (suc n) area (a ∷ b ∷ ns) at e h =
-    let p = both-true _ _ h in
-    let x : numberAt area at w ≡ a = eqb-true _ _ (both-true _ _ (p .0) .1) in
-    let q = both-true _ _ (ap (λ (z : List ℕ). holdsNumbers w z (b ∷ ns)) (sym (drop-drop w at area)) ∙ p .1) in
-    let y : numberAt area (at + w) w ≡ b = eqb-true _ _ (both-true _ _ (q .0) .1) in
+    let p = holds-first w (drop at area) a (b ∷ ns) h in
+    let q = holds-first w (drop (at + w) area) b ns (ap (λ (z : List ℕ). holdsNumbers w z (b ∷ ns)) (sym (drop-drop w at area)) ∙ p .others) in
     let twice : at + w + w ≡ at + 2 * w = omega arith in
-    let r : holdsNumbers w (drop (at + 2 * w) area) ns ≡ true = ap (λ (z : List ℕ). holdsNumbers w z ns) (sym (drop-drop w (at + w) area ∙ ap (λ (j : ℕ). drop j area) twice)) ∙ q .1 in
+    let r : holdsNumbers w (drop (at + 2 * w) area) ns ≡ true = ap (λ (z : List ℕ). holdsNumbers w z ns) (sym (drop-drop w (at + w) area ∙ ap (λ (j : ℕ). drop j area) twice)) ∙ q .others in
+    let x : numberAt area at w ≡ a = sym (number-drop area at w) ∙ p .number in
+    let y : numberAt area (at + w) w ≡ b = sym (number-drop area (at + w) w) ∙ q .number in
     ap₂ (λ (c : ℕ × ℕ) (m : List (ℕ × ℕ)). c ∷ m) (ap₂ (λ (c d : ℕ). (c, d)) x y) (holds-pairs w n area ns (at + 2 * w) (omega arith) r)
 
 pairs-of : (file : LargeFileFlag) (area ns : List ℕ) → length ns ≡ 2 * (length ns / 2) → length area ≡ offsetWidth file * length ns → holdsNumbers (offsetWidth file) area ns ≡ true → pairsOf file area ≡ byTurns ns

@@ -27,7 +27,7 @@ use Rattle.header.specs.Header.{headerLength, pduLength, headerBytes, withDirec
 use Rattle.header.specs.Judging.{recordTests, building}
 use Rattle.header.specs.Writing.{headerMemory}
 use Rattle.header.specs.Verifying.{checksumBytes, crcAdded}
-use Rattle.header.proofs.Judging.{with-tests}
+use Rattle.header.proofs.Judging.{with-tests, refused-first}
 use Rattle.header.proofs.Writing.{header-length, with-length, header-stored}
 use Rattle.header.proofs.Verifying.{pdu-sum, added-sets, checksum-length}
 use Rattle.nak.specs.declared.write.NakWritten.{NakWritten}
@@ -71,8 +71,8 @@ filled-is file n d h a b c p q r s = s ∙ ap₂ withLength p (r ∙ ap (withFil
 
 module _ (file : LargeFileFlag) (h : PduHeader) (start end count : ℕ) where
   pub refused-nak : (ns : List ℕ) → told ns ≡ building h → told ns ≡ judgingNak file h start end count
-  unfolding building judgingNak nakTests
-  refused-nak ns e = refused-on ns (recordTests h) _ h _ e
+  unfolding judgingNak nakTests
+  refused-nak ns e = refused-first h _ _ ns e
 
   module _ (good : Passed (recordTests h)) where
     rest : judgingNak file h start end count ≡ firstOf (oddCount count ∷ scopeTooLarge file start end ∷ tooMany file (count / 2) ∷ []) (filled file (count / 2) h)
