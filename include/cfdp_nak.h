@@ -116,6 +116,22 @@ void cfdp_nak_finish(const uint8_t shape[10], const uint64_t ids[3], size_t pair
 /* How many pairs a NAK has at most in a packet of that many bytes, by the size alone: the count; or 13, 3, 4, 14, 15. */
 void cfdp_nak_most(const uint8_t shape[10], const uint64_t ids[3], size_t packet, uint64_t answer[20]);
 
+/* ---- comparing: nothing is written */
+
+/* Compares the NAK at the front of the bytes with the one that cfdp_nak_write would write: 1 where all header fields
+   (identifiers by number, not width), the data length and the scope are equal and the request area is exactly the pairs, else
+   0; or the reader's refusals, and then the writer's but 11. */
+void cfdp_nak_compare(const uint8_t *bytes, size_t bytes_len, const uint8_t shape[10], const uint64_t ids[3],
+                      uint64_t start, uint64_t end, uint64_t answer[20]);
+
+/* The same with the one that cfdp_nak_write_normal would write. */
+void cfdp_nak_compare_normal(const uint8_t *bytes, size_t bytes_len, const uint8_t shape[10], const uint64_t ids[3],
+                             uint64_t start, uint64_t end, const uint32_t *numbers, size_t count, uint64_t answer[20]);
+
+/* The same with the one that cfdp_nak_write_large would write. */
+void cfdp_nak_compare_large(const uint8_t *bytes, size_t bytes_len, const uint8_t shape[10], const uint64_t ids[3],
+                            uint64_t start, uint64_t end, const uint64_t *numbers, size_t count, uint64_t answer[20]);
+
 #ifdef __cplusplus
 }
 #endif

@@ -31,9 +31,9 @@ static void list(const uint8_t *bytes, size_t length) {
 /* N's numbers: flags clear, widths 1; the direction bit is the writer's */
 static const uint8_t shape[10] = {0, 0, 0, 0, 0, 0, 0, 1, 1, 1};
 static const uint64_t ids[3] = {1, 2, 3};
+static const uint32_t numbers[2] = {100, 200};
 
 static void write_n(uint8_t *buf, size_t length, uint64_t answer[20]) {
-    static const uint32_t numbers[2] = {100, 200};
     cfdp_nak_write_normal(shape, ids, 0, 1000, numbers, 2, buf, length, answer);
 }
 
@@ -67,5 +67,10 @@ int main(void) {
     write_n(buf, 23, answer);
     printf("refused %" PRIu64 " %" PRIu64 " %" PRIu64 ", %s\n", answer[0], answer[1], answer[2],
            memcmp(buf, before, 23) == 0 ? "no byte changed" : "bytes changed");
+
+    cfdp_nak_compare_normal(N, sizeof N, shape, ids, 0, 1000, numbers, 2, answer);
+    uint64_t equal = answer[1];
+    cfdp_nak_compare_normal(N, sizeof N, shape, ids, 0, 1001, numbers, 2, answer);
+    printf("compared %" PRIu64 ", with another end %" PRIu64 "\n", equal, answer[1]);
     return 0;
 }

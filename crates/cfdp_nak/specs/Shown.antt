@@ -1,5 +1,6 @@
 -- An answer as 20 numbers: 0 and what was accepted, or the refusal's number and its values; the rest is 0.
 use Prim.Native.Nat.{ℕ, zero, suc}
+use mathlib.Core.Bool.{Bool, true, false}
 use mathlib.Core.List.{List, [], _∷_, _++_}
 use Rattle.fields.specs.declared.refusal.Refusal.{Refusal}
 use Rattle.fields.specs.Refusal.{paper}
@@ -72,3 +73,8 @@ writtenNumbers w = headerNumbers (w .header) ++ (w .length ∷ [])
 -- a NAK that was reserved: the header handed back, its pairs, where its request area starts and stops, the length that it will have
 abbrev pub reservedNumbers : ReservedNak → List ℕ
 reservedNumbers r = headerNumbers (r .header) ++ (r .count ∷ r .area ∷ r .stop ∷ pduLength (r .header) ∷ [])
+
+-- a comparison: 1 for equal, 0 for different
+abbrev pub verdictNumber : Bool → List ℕ
+verdictNumber true = 1 ∷ []
+verdictNumber false = 0 ∷ []

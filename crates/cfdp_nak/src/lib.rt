@@ -21,6 +21,7 @@ use header::SegmentationControl;
 use header::TransmissionMode;
 use nak::write::WriteResult;
 
+pub mod compare;
 pub mod headers;
 pub mod read;
 pub mod reserve;

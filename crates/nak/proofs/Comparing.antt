@@ -14,7 +14,6 @@ use Rattle.fields.specs.Answer.{Answer, accepted, told, andThen}
 use Rattle.fields.specs.Staged.{run}
 use Rattle.fields.proofs.BigEndian.{at-number}
 use Rattle.fields.proofs.Judging.{told-on}
-use Rattle.fields.proofs.OneToOne.{answerBack, told-back, one-to-one}
 use Rattle.header.specs.declared.PduHeader.{PduHeader}
 use Rattle.header.specs.declared.flags.LargeFileFlag.{LargeFileFlag}
 use Rattle.header.specs.Comparing.{sameHeader}

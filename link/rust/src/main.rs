@@ -41,6 +41,17 @@ extern "C" {
         buf_len: usize,
         answer: *mut [u64; 20],
     );
+    fn cfdp_nak_compare_normal(
+        bytes: *const u8,
+        bytes_len: usize,
+        shape: *const [u8; 10],
+        ids: *const [u64; 3],
+        start: u64,
+        end: u64,
+        numbers: *const u32,
+        count: usize,
+        answer: *mut [u64; 20],
+    );
 }
 
 const N: [u8; 24] = [
@@ -81,9 +92,9 @@ fn list(bytes: &[u8]) {
 // N's numbers: flags clear, widths 1; the direction bit is the writer's.
 const SHAPE: [u8; 10] = [0, 0, 0, 0, 0, 0, 0, 1, 1, 1];
 const IDS: [u64; 3] = [1, 2, 3];
+const NUMBERS: [u32; 2] = [100, 200];
 
 fn write_n(buf: &mut [u8]) -> [u64; 20] {
-    let numbers = [100, 200];
     let mut answer = [0; 20];
     unsafe {
         cfdp_nak_write_normal(
@@ -91,8 +102,8 @@ fn write_n(buf: &mut [u8]) -> [u64; 20] {
             &IDS,
             0,
             1000,
-            numbers.as_ptr(),
-            numbers.len(),
+            NUMBERS.as_ptr(),
+            NUMBERS.len(),
             buf.as_mut_ptr(),
             buf.len(),
             &mut answer,
@@ -116,6 +127,25 @@ fn finish_n(buf: &mut [u8]) {
     println!("reserved {area} to {stop}, finished {}, {}", answer[15], same(buf));
 }
 
+// Whether N is the NAK with that end of scope: 1 or 0.
+fn compare_n(end: u64) -> u64 {
+    let mut answer = [0; 20];
+    unsafe {
+        cfdp_nak_compare_normal(
+            N.as_ptr(),
+            N.len(),
+            &SHAPE,
+            &IDS,
+            0,
+            end,
+            NUMBERS.as_ptr(),
+            NUMBERS.len(),
+            &mut answer,
+        )
+    };
+    answer[1]
+}
+
 fn main() {
     let digits = b"123456789";
     println!("checksum {:x}", unsafe { cfdp_checksum(digits.as_ptr(), digits.len()) });
@@ -133,4 +163,6 @@ fn main() {
     let answer = write_n(&mut short);
     let words = if short == before { "no byte changed" } else { "bytes changed" };
     println!("refused {} {} {}, {words}", answer[0], answer[1], answer[2]);
+
+    println!("compared {}, with another end {}", compare_n(1000), compare_n(1001));
 }

@@ -1,0 +1,222 @@
+-- DEMAND 2 for NAKs: what is written reads back, what was finished was written, and comparing agrees. Once over the widths, with and without CRC.
+-- Assumes nothing.
+use Prim.Native.Nat.{ℕ, zero, suc, _+_, _-_, _*_, _/_, _%_, _^_, _≤_, _<_}
+use mathlib.Core.Path.{_≡_, refl, sym, ap, ap₂, subst, _∙_}
+use mathlib.Core.Bool.{Bool, true, false, _&&_}
+use mathlib.Core.List.{List, [], _∷_, _++_, append-assoc}
+use native.Mathlib.Omega.{arith}
+use lib.Dec.{eqb, leb, lit<}
+use lib.ListN.{length, getD, take, drop, length-append, length-drop}
+use lib.Seq.{take-at, drop-at, drop-drop, getD-at}
+use borrow.Author.Tests.{le-leb, leb-true, eq-eqb, eqb-true}
+use Rattle.fields.specs.BigEndian.{beBytes, numberAt}
+use Rattle.fields.specs.Answer.{Answer, accepted, andThen, firstOf, leaves}
+use Rattle.fields.specs.Staged.{run}
+use Rattle.fields.proofs.BigEndian.{be-length, number-back}
+use Rattle.fields.proofs.Judging.{Passed, passed, passed-first, passed-on, same-accepted}
+use Rattle.fields.proofs.Staged.{run-bind}
+use Rattle.header.specs.declared.PduHeader.{PduHeader}
+use Rattle.header.specs.declared.flags.CrcFlag.{CrcFlag}
+use Rattle.header.specs.declared.flags.LargeFileFlag.{LargeFileFlag}
+use Rattle.header.specs.declared.flags.LargeFileFlag.the-variants.{Normal, Large}
+use Rattle.header.specs.Flags.{crcBit}
+use Rattle.header.specs.Header.{headerLength, pduLength, dataEnd, headerBytes}
+use Rattle.header.specs.Judging.{recordTests}
+use Rattle.header.specs.Reading.{readingHeader}
+use Rattle.header.specs.Verifying.{pduBytes, checksumBytes}
+use Rattle.header.proofs.FlagBits.{crc-bit}
+use Rattle.header.proofs.Writing.{header-length}
+use Rattle.header.proofs.Verifying.{pdu-sum, end-sum, checksum-length, closed-verifies, Verified}
+use Rattle.header.proofs.Demands.{sound-reads-back}
+use Rattle.nak.specs.declared.Nak.{Nak}
+use Rattle.nak.specs.declared.NakResult.{NakResult}
+use Rattle.nak.specs.declared.NakResult.the-variants.{Nak as Read}
+use Rattle.nak.specs.declared.write.NakWritten.{NakWritten}
+use Rattle.nak.specs.Nak.{offsetWidth, pairSize, areaStart, nakIn}
+use Rattle.nak.specs.Directive.{nakCode, isKnown}
+use Rattle.nak.specs.Reading.{nakAnswer, readingScope, readingDirective, readingData, readingNak}
+use Rattle.nak.specs.Requests.{areaOf, pairsFrom, pairsOf}
+use Rattle.nak.specs.Writing.{numbersBytes, startBytes, nakOver, nakBytes, dataLength, mostPairs, filled, scopeFits, nakTests, noRoom, judgingNak, intoRoom, writingNak, nakMemory}
+use Rattle.nak.specs.Demands.{byTurns, Lent, readAs, ReadsBack, WrittenReadsBack, CodeReadsBack}
+use Rattle.nak.proofs.Reading.{scope-whole, nak-code, verified-data, read-header}
+use Rattle.nak.proofs.Walking.{within}
+use Rattle.nak.proofs.Writing.{ToWrite, to-write, scope-fits, pairs-bytes, doubled, start-length, numbers-length}
+use Rattle.nak.proofs.Demands.{one-nak-result}
+
+-- ---- the pairs, once over the width
+
+pairs-at : (w n : ℕ) (pre ns : List ℕ) → length ns ≡ 2 * n → Lent w ns → pairsFrom w (pre ++ numbersBytes w ns) (length pre) n ≡ byTurns ns
+unfolding numbersBytes
+pairs-at w zero pre [] e h = refl
+pairs-at w zero pre (a ∷ ns) e h = absurd (omega arith)
+pairs-at w (suc n) pre [] e h = absurd (omega arith)
+pairs-at w (suc n) pre (a ∷ []) e h = absurd (omega arith)
+pairs-at w (suc n) pre (a ∷ b ∷ ns) e h =
+    let A = pre ++ numbersBytes w (a ∷ b ∷ ns) in
+    let s2 : A ≡ (pre ++ beBytes w a) ++ (beBytes w b ++ numbersBytes w ns) = simp append-assoc in
+    let s3 : A ≡ ((pre ++ beBytes w a) ++ beBytes w b) ++ numbersBytes w ns = simp append-assoc in
+    let l2 : length (pre ++ beBytes w a) ≡ length pre + w = simp (length-append, be-length) in
+    let l3 : length ((pre ++ beBytes w a) ++ beBytes w b) ≡ length pre + 2 * w = simp (length-append, be-length) (omega arith) in
+    let x : numberAt A (length pre) w ≡ a = number-back pre (beBytes w b ++ numbersBytes w ns) (length pre) w a refl (h 0) in
+    let y : numberAt A (length pre + w) w ≡ b = rw s2 (number-back (pre ++ beBytes w a) (numbersBytes w ns) (length pre + w) w b l2 (h 1)) in
+    let t : pairsFrom w A (length pre + 2 * w) n ≡ byTurns ns = rw (s3, ← l3) (pairs-at w n ((pre ++ beBytes w a) ++ beBytes w b) ns (omega arith) (λ i. h (suc (suc i)))) in
+    ap₂ (λ (p : ℕ × ℕ) (m : List (ℕ × ℕ)). p ∷ m) (ap₂ (λ (p q : ℕ). (p, q)) x y) t
+
+halves : (file : LargeFileFlag) (count : ℕ) → count ≡ 2 * (count / 2) → offsetWidth file * count / pairSize file ≡ count / 2
+halves Normal count e = omega arith
+halves Large count e = omega arith
+
+pairs-back : (file : LargeFileFlag) (ns : List ℕ) → length ns ≡ 2 * (length ns / 2) → Lent (offsetWidth file) ns → pairsOf file (numbersBytes (offsetWidth file) ns) ≡ byTurns ns
+unfolding pairsOf
+pairs-back file ns e h =
+    ap (pairsFrom (offsetWidth file) (numbersBytes (offsetWidth file) ns) 0) (ap (λ (j : ℕ). j / pairSize file) (numbers-length (offsetWidth file) ns) ∙ halves file (length ns) e)
+    ∙ pairs-at (offsetWidth file) (length ns / 2) [] ns e h
+
+-- ---- a NAK over an area of whole pairs
+
+four : (file : LargeFileFlag) → 4 ≤ offsetWidth file
+four Normal = omega arith
+four Large = omega arith
+
+eight-known : isKnown 8 ≡ true
+unfolding isKnown
+eight-known = refl
+
+module _ (k : PduHeader) (start end count : ℕ) (area t : List ℕ) (good : Passed (recordTests k)) (scope : scopeFits (k .file) start end ≡ true)
+    (size : length area ≡ offsetWidth (k .file) * count) (whole : areaStart k + offsetWidth (k .file) * count + 2 * crcBit (k .crc) ≡ pduLength k) (small : k .length < 2 ^ 16) where
+  -- all but the checksum, and all
+  M : List ℕ
+  M = startBytes k start end ++ area
+
+  N : List ℕ
+  N = nakOver k start end area
+
+  n-is : N ≡ M ++ checksumBytes (k .crc) M
+  unfolding N M nakOver
+  n-is = refl
+
+  m-length : length M ≡ dataEnd k
+  unfolding M
+  m-length = simp (length-append, start-length, size) (omega (arith, end-sum k))
+
+  n-length : length N ≡ pduLength k
+  n-length = ap length n-is ∙ length-append M (checksumBytes (k .crc) M) ∙ omega (arith, m-length, checksum-length (k .crc) M, end-sum k)
+
+  before : areaStart k ≤ dataEnd k
+  before = omega (arith, end-sum k)
+
+  nine : 9 ≤ areaStart k
+  unfolding areaStart
+  nine = omega (arith, four (k .file))
+
+  code-before : headerLength k + 1 ≤ areaStart k
+  unfolding areaStart
+  code-before = omega arith
+
+  -- the parts, from the front
+  abbrev W : ℕ
+  W = offsetWidth (k .file)
+
+  abbrev S : List ℕ
+  S = checksumBytes (k .crc) (startBytes k start end ++ area)
+
+  code-at : getD N (headerLength k) 0 ≡ 8
+  unfolding N nakOver startBytes beBytes
+  code-at =
+      let s : N ≡ headerBytes k ++ 8 ∷ (beBytes W start ++ (beBytes W end ++ (area ++ S))) = simp append-assoc in
+      ap (λ (x : List ℕ). getD x (headerLength k) 0) s ∙ getD-at (headerBytes k) 8 _ 0 (headerLength k) (header-length k)
+
+  start-at : numberAt N (headerLength k + 1) W ≡ start
+  unfolding N nakOver startBytes
+  start-at =
+      let s : N ≡ (headerBytes k ++ beBytes 1 nakCode) ++ (beBytes W start ++ (beBytes W end ++ (area ++ S))) = simp append-assoc in
+      let l : length (headerBytes k ++ beBytes 1 nakCode) ≡ headerLength k + 1 = simp (length-append, be-length, header-length) in
+      ap (λ (x : List ℕ). numberAt x (headerLength k + 1) W) s ∙ number-back (headerBytes k ++ beBytes 1 nakCode) _ (headerLength k + 1) W start l (scope-fits (k .file) start end scope .0)
+
+  end-at : numberAt N (headerLength k + 1 + W) W ≡ end
+  unfolding N nakOver startBytes
+  end-at =
+      let pre = (headerBytes k ++ beBytes 1 nakCode) ++ beBytes W start in
+      let s : N ≡ pre ++ (beBytes W end ++ (area ++ S)) = simp append-assoc in
+      let l : length pre ≡ headerLength k + 1 + W = simp (length-append, be-length, header-length) in
+      ap (λ (x : List ℕ). numberAt x (headerLength k + 1 + W) W) s ∙ number-back pre _ (headerLength k + 1 + W) W end l (scope-fits (k .file) start end scope .1)
+
+  nak-is : count ≡ 2 * (count / 2) → nakIn k N ≡ readAs k start end (count / 2)
+  unfolding nakIn
+  nak-is even =
+      let room : dataEnd k - areaStart k ≡ W * count = omega (arith, end-sum k) in
+      let pairs : (dataEnd k - areaStart k) / pairSize (k .file) ≡ count / 2 = ap (λ (j : ℕ). j / pairSize (k .file)) room ∙ halves (k .file) count even in
+      λ i. record { header = k; start = start-at i; end = end-at i; area = areaStart k; stop = dataEnd k; count = pairs i }
+
+  header-run : run readingHeader (N ++ t) ≡ accepted k
+  unfolding N nakOver startBytes
+  header-run =
+      let r = beBytes 1 nakCode ++ (beBytes W start ++ (beBytes W end ++ (area ++ (S ++ t)))) in
+      let s : N ++ t ≡ headerBytes k ++ r = simp append-assoc in
+      ap (run readingHeader) s ∙ sound-reads-back k r good small
+
+  directive-run : run (readingDirective k N) (N ++ t) ≡ accepted (nakIn k N)
+  directive-run =
+      let l : length (N ++ t) ≡ pduLength k + length t = length-append N t ∙ ap (λ (j : ℕ). j + length t) n-length in
+      let e : dataEnd k + 2 * crcBit (k .crc) ≡ pduLength k = end-sum k in
+      let b = before in
+      let n9 = nine in
+      let cb = code-before in
+      let known : isKnown 8 ≡ true = eight-known in
+      sym (scope-whole k N (N ++ t) (dataEnd k) (areaStart k) refl refl b
+      ∙ nak-code k N (N ++ t) (omega arith) (dataEnd k) refl (omega arith) (headerLength k) refl (omega arith) 8 (sym code-at) known (N ++ t) refl)
+
+  data-run : run (readingData k) (N ++ t) ≡ accepted (nakIn k N)
+  unfolding readingData
+  data-run =
+      run-bind (pduBytes k) (readingDirective k) (N ++ t)
+      ∙ ap (λ (o : Answer (List ℕ)). andThen o (λ p. run (readingDirective k p) (N ++ t))) (closed-verifies k M N t n-is n-length)
+      ∙ directive-run
+
+  pub over-reads : count ≡ 2 * (count / 2) → run readingNak (nakOver k start end area ++ t) ≡ accepted (readAs k start end (count / 2))
+  unfolding N
+  over-reads even = sym (read-header k (N ++ t) (sym header-run)) ∙ data-run ∙ ap accepted (nak-is even)
+
+  pub over-area : (n : ℕ) → areaOf (readAs k start end n) (nakOver k start end area ++ t) ≡ area
+  unfolding N nakOver
+  over-area n =
+      let s : N ++ t ≡ startBytes k start end ++ (area ++ (S ++ t)) = simp append-assoc in
+      let l : length (N ++ t) ≡ pduLength k + length t = length-append N t ∙ ap (λ (j : ℕ). j + length t) n-length in
+      let e : dataEnd k + 2 * crcBit (k .crc) ≡ pduLength k = end-sum k in
+      let b = before in
+      sym (within (readAs k start end n) (N ++ t) b (omega arith))
+      ∙ ap (λ (x : List ℕ). take (dataEnd k - areaStart k) x) (ap (drop (areaStart k)) s ∙ drop-at (startBytes k start end) (area ++ (S ++ t)) (areaStart k) (start-length k start end))
+      ∙ take-at area (S ++ t) (dataEnd k - areaStart k) (size ∙ omega arith)
+
+-- ---- what is written reads back
+
+small-length : (file : LargeFileFlag) (h : PduHeader) (start end count room : ℕ) (w : NakWritten) → ToWrite file h start end count room w → w .header .length < 2 ^ 16
+unfolding areaStart
+small-length file h start end count room w z =
+    let k = w .header in
+    let f : offsetWidth (k .file) ≡ offsetWidth file = ap offsetWidth (z .flag) in
+    omega (arith, f, z .whole, pdu-sum k, crc-bit (k .crc), doubled file count (z .even), pairs-bytes file (count / 2) (offsetWidth file) (z .fewer) refl)
+
+pub written-reads-back : WrittenReadsBack
+unfolding nakBytes
+written-reads-back file h start end room numbers t w lent e =
+    let k = w .header in
+    let z = to-write file h start end (length numbers) room w (sym e) in
+    let f : offsetWidth file ≡ offsetWidth (k .file) = sym (ap offsetWidth (z .flag)) in
+    let area = numbersBytes (offsetWidth (k .file)) numbers in
+    let size : length area ≡ offsetWidth (k .file) * length numbers = numbers-length (offsetWidth (k .file)) numbers in
+    let whole : areaStart k + offsetWidth (k .file) * length numbers + 2 * crcBit (k .crc) ≡ pduLength k = ap (λ (u : ℕ). areaStart k + u * length numbers + 2 * crcBit (k .crc)) (sym f) ∙ z .whole in
+    let small = small-length file h start end (length numbers) room w z in
+    let is = over-area k start end (length numbers) area t (z .good) (z .scope) size whole small (length numbers / 2) in
+    record {
+      read = over-reads k start end (length numbers) area t (z .good) (z .scope) size whole small (z .even);
+      area = is;
+      pairs = ap (pairsOf (k .file)) is ∙ pairs-back (k .file) numbers (z .even) (subst (λ (u : ℕ). Lent u numbers) f lent);
+    }
+
+pub code-reads-back : CodeReadsBack
+unfolding nakMemory
+code-reads-back file h start end numbers s w r lent e q =
+    let m : nakMemory file h start end numbers s ≡ nakBytes (w .header) start end numbers ++ drop (length (nakBytes (w .header) start end numbers)) s =
+    ap (λ (o : Answer NakWritten). leaves o (λ (x : NakWritten). nakBytes (x .header) start end numbers) s) e in
+    one-nak-result r _ (q ∙ ap (run readingNak) m ∙ written-reads-back file h start end (length s) numbers _ w lent e .read)
