@@ -1,5 +1,5 @@
 // The library for C and Rust: each exported function takes numbers and slices, calls the codec, and writes its answer as
-// 20 numbers. Every value of every parameter has its answer. `include/cfdp_nak.h` declares them all.
+// numbers. Every value of every parameter has its answer. `include/cfdp_nak.h` declares them all.
 ghost use mathlib.Core.Path.{_≡_};
 ghost use mathlib.Core.List.{[], _∷_, _++_};
 ghost use Rattle.header.specs.Answers.{lengthAnswer};

@@ -22,7 +22,7 @@ andThen (accepted a) f = f a
 andThen (short l n) f = short l n
 andThen (refused ns) f = refused ns
 
--- a test, and the refusal where it holds
+-- a test, and the refusal where it holds; never refusal 1, which only a stage that lacks bytes gives
 pub record Test : Type 0 where
   pub holds : Bool
   pub says : List ℕ

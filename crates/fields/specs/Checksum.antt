@@ -1,4 +1,4 @@
--- The checksum of a PDU (CCSDS 727.0-B-5, 4.1; document 01, `crc.rs`): the remainder by x^16 + x^12 + x^5 + 1 of the message, from the start value 0xFFFF, most significant bit first, nothing inverted at the end.
+-- The checksum of a PDU, which the standard calls its CRC (CCSDS 727.0-B-5, 4.1; document 01, `crc.rs`): the remainder by x^16 + x^12 + x^5 + 1 of the message, from the start value 0xFFFF, most significant bit first, nothing inverted at the end.
 use Prim.Native.Nat.{ℕ, zero, suc, _*_, _/_, _%_}
 use mathlib.Core.List.{List, [], _∷_}
 use lib.Bits.{bitXor}

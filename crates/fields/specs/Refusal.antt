@@ -7,7 +7,7 @@ use Rattle.fields.specs.declared.refusal.Refusal.the-variants.{FromSlice
 use Rattle.fields.specs.declared.refusal.RefusalNumbers.{RefusalNumbers}
 
 abbrev pub paper : Refusal → List ℕ
-paper (FromSliceTooSmall length needed) = 1 ∷ length ∷ needed ∷ []
+paper (FromSliceTooSmall found needed) = 1 ∷ found ∷ needed ∷ []
 paper (CfdpVersionMissmatch version) = 2 ∷ version ∷ []
 paper (InvalidEntityLen width) = 3 ∷ width ∷ []
 paper (InvalidTransactionSeqNumLen width) = 4 ∷ width ∷ []
@@ -15,9 +15,9 @@ paper (Checksum last) = 5 ∷ last ∷ []
 paper (DataFieldTooSmall end needed) = 6 ∷ end ∷ needed ∷ []
 paper (InvalidDirectiveType code) = 7 ∷ code ∷ []
 paper (WrongDirectiveType code) = 8 ∷ code ∷ []
-paper (InvalidStartOrEndOfScope first last) = 9 ∷ first ∷ last ∷ []
+paper (InvalidStartOrEndOfScope start end) = 9 ∷ start ∷ end ∷ []
 paper (TooManySegmentRequests pairs most) = 10 ∷ pairs ∷ most ∷ []
-paper (ToSliceTooSmall length needed) = 11 ∷ length ∷ needed ∷ []
+paper (ToSliceTooSmall found needed) = 11 ∷ found ∷ needed ∷ []
 paper (OddCount count) = 12 ∷ count ∷ []
 paper (SourceDestIdLenMissmatch source destination) = 13 ∷ source ∷ destination ∷ []
 paper (ValueTooLargeForWidth value width) = 14 ∷ value ∷ width ∷ []

@@ -2,7 +2,7 @@
 ghost use mathlib.Core.Path.{_≡_};
 ghost use Rattle.fields.specs.Refusal.{numbersOf};
 
-// Names are the Rust's where the Rust has the refusal; 6, 10 and 12 are the port's own.
+// Names are the Rust's, where the Rust has one; the names of 6, 10 and 12 are the port's own.
 pub enum Refusal {
     // 1: buffer short.
     FromSliceTooSmall { found: usize, expected: usize },

@@ -6,12 +6,12 @@ use mathlib.Core.Bool.{true}
 use mathlib.Core.List.{List, _++_}
 use native.Mathlib.Omega.{arith}
 use lib.Dec.{lit<}
-use lib.ListN.{length, getD, take}
+use lib.ListN.{length, getD, take, drop}
 use lib.Seq.{getD-take}
 use borrow.Author.Tests.{not-false}
 use Rattle.fields.specs.Width.{isWidth, fitsField}
 use Rattle.fields.specs.BigEndian.{Bytes, numberAt}
-use Rattle.fields.specs.Answer.{Answer, accepted}
+use Rattle.fields.specs.Answer.{Answer, accepted, leaves}
 use Rattle.fields.specs.Staged.{run}
 use Rattle.fields.specs.Demand3.{AtMost}
 use Rattle.fields.proofs.Width.{lt-fits}
@@ -28,7 +28,8 @@ use Rattle.header.specs.Answers.{headerAnswer, lengthAnswer}
 use Rattle.header.specs.Header.{headerBytes}
 use Rattle.header.specs.Judging.{recordTests, building}
 use Rattle.header.specs.Reading.{entityWidthIn, sequenceWidthIn, headerLengthIn, headerIn, readingHeader}
-use Rattle.header.specs.Demands.{HeaderReadsBack, ReadIsSound, HeaderDemand3, OneHeaderResult, OneLengthResult}
+use Rattle.header.specs.Writing.{headerMemory}
+use Rattle.header.specs.Demands.{HeaderReadsBack, MemoryReadsBack, ReadIsSound, HeaderDemand3, OneHeaderResult, OneLengthResult}
 use Rattle.header.proofs.Judging.{sound, all-right}
 use Rattle.header.proofs.Writing.{written-passed}
 use Rattle.header.proofs.RoundTrip.{reads-back}
@@ -71,6 +72,12 @@ sound-reads-back h t p small =
 
 pub header-reads-back : HeaderReadsBack
 header-reads-back h room n t small e = sound-reads-back h t (written-passed h room n (sym e)) small
+
+pub memory-reads-back : MemoryReadsBack
+unfolding headerMemory
+memory-reads-back h s n small e =
+    let m : headerMemory h s ≡ headerBytes h ++ drop (length (headerBytes h)) s = ap (λ (o : Answer ℕ). leaves o (λ (_ : ℕ). headerBytes h) s) e in
+    ap (run readingHeader) m ∙ header-reads-back h (length s) n _ small e
 
 -- ---- demand 2: what was read is sound
 

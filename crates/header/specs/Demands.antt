@@ -3,6 +3,7 @@ use Prim.Native.Nat.{ℕ, _^_, _<_}
 use mathlib.Core.Path.{_≡_}
 use mathlib.Core.Bool.{true}
 use mathlib.Core.List.{List, _++_}
+use lib.ListN.{length}
 use Rattle.fields.specs.BigEndian.{Bytes}
 use Rattle.fields.specs.Answer.{accepted}
 use Rattle.fields.specs.Staged.{run}
@@ -14,12 +15,16 @@ use Rattle.header.specs.Header.{headerBytes}
 use Rattle.header.specs.Answers.{headerAnswer, lengthAnswer}
 use Rattle.header.specs.Judging.{building}
 use Rattle.header.specs.Reading.{readingHeader}
-use Rattle.header.specs.Writing.{writingHeader}
+use Rattle.header.specs.Writing.{writingHeader, headerMemory}
 use Rattle.header.specs.Comparing.{sameHeader}
 
 -- DEMAND 2: what is written, followed by anything, reads back as the same header
 abbrev pub HeaderReadsBack : Type 0
 HeaderReadsBack = (h : PduHeader) (room written : ℕ) (t : List ℕ) → h .length < 2 ^ 16 → writingHeader h room ≡ accepted written → run readingHeader (headerBytes h ++ t) ≡ accepted h
+
+-- DEMAND 2: and so does the buffer that an accepted write left
+abbrev pub MemoryReadsBack : Type 0
+MemoryReadsBack = (h : PduHeader) (s : List ℕ) (written : ℕ) → h .length < 2 ^ 16 → writingHeader h (length s) ≡ accepted written → run readingHeader (headerMemory h s) ≡ accepted h
 
 -- DEMAND 2: a header that was read from bytes passes the judgement of a record
 abbrev pub ReadIsSound : Type 0

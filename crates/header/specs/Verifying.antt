@@ -1,4 +1,4 @@
--- Verifying the length and the checksum of a PDU by its header.
+-- Verifying the length and the checksum of a PDU by its header, and the checksum that a writer stores.
 use Prim.Native.Nat.{ℕ, _-_}
 use mathlib.Core.Bool.{Bool, _&&_, not}
 use mathlib.Core.List.{List, [], _∷_}

@@ -1,4 +1,4 @@
-// Verifying the length and the checksum of a PDU by its header.
+// Verifying the length and the checksum of a PDU by its header, and storing the checksum behind what was written.
 ghost use mathlib.Core.Path.{_≡_};
 ghost use Rattle.fields.specs.Staged.{run};
 ghost use Rattle.header.specs.Answers.{lengthAnswer};

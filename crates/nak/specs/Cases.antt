@@ -14,6 +14,7 @@ pub data Given : Type 0 where
   sum : List ℕ → Given
   read : List ℕ → Given
 
+-- pairs as numbers, start and end by turns
 abbrev pub flat : List (ℕ × ℕ) → List ℕ
 flat [] = []
 flat (p ∷ ps) = p .0 ∷ p .1 ∷ flat ps

@@ -33,7 +33,7 @@ unknownDirective code = when (not (isKnown code)) (7 ∷ code ∷ [])
 abbrev pub wrongDirective : ℕ → Test
 wrongDirective code = when (not (eqb code nakCode)) (8 ∷ code ∷ [])
 
--- the fewest bytes of a PDU that the Rust asks for: a directive code and a normal scope
+-- the fewest bytes, header and all, that the Rust asks of the buffer and of the declared data
 abbrev pub leastLength : ℕ
 leastLength = 9
 

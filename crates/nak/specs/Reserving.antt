@@ -18,11 +18,11 @@ abbrev pub reserveAnswer : ReserveResult → Answer ReservedNak
 reserveAnswer (Reserved r) = accepted r
 reserveAnswer (Refused r) = told (paper r)
 
--- '13, 3, 4, 14, 10' of n pairs: both begin with these
+-- '13, 3, 4, 14, 10' of n pairs: reserving and finishing begin with these
 unfoldable pub pairTests : PduHeader → ℕ → List Test
 pairTests h n = recordTests h ++ (tooMany (h .file) n ∷ [])
 
--- both keep the file flag
+-- reserving and finishing keep the file flag
 abbrev pub keeping : PduHeader → ℕ → PduHeader
 keeping h n = filled (h .file) n h
 

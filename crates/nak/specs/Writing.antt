@@ -67,10 +67,11 @@ filled file n h = withLength (dataLength file (h .crc) n) (withFileFlag file (wi
 abbrev pub oddCount : ℕ → Test
 oddCount count = when (not (eqb (count % 2) 0)) (12 ∷ count ∷ [])
 
--- 9: scope above 2^32 - 1 in a normal NAK
+-- both ends of the scope fit the width of an offset
 unfoldable pub scopeFits : LargeFileFlag → ℕ → ℕ → Bool
 scopeFits file start end = fitsWidth (offsetWidth file) start && fitsWidth (offsetWidth file) end
 
+-- 9: scope above 2^32 - 1 in a normal NAK
 abbrev pub scopeTooLarge : LargeFileFlag → ℕ → ℕ → Test
 scopeTooLarge file start end = when (not (scopeFits file start end)) (9 ∷ start ∷ end ∷ [])
 

@@ -23,7 +23,7 @@ use header::verify;
 // The code of a NAK.
 const NAK_CODE: u64 = 8;
 
-// The header as it was written, its length filled in, and the written bytes.
+// The header as it was written, its length filled in, and how many bytes were written.
 pub struct NakWritten {
     pub header: PduHeader,
     pub length: usize,
