@@ -2,6 +2,7 @@
 use fields::EntityId;
 use fields::TransactionSeqNum;
 use fields::UnsignedByteField;
+use fields::be;
 use header::CrcFlag;
 use header::Direction;
 use header::LargeFileFlag;
@@ -11,6 +12,10 @@ use header::SegmentMetadataFlag;
 use header::SegmentationControl;
 use header::TransmissionMode;
 use libc::STDOUT_FILENO;
+use nak::compare;
+use nak::compare::CompareResult;
+use nak::reserve::ReserveResult;
+use nak::reserve::ReservedNak;
 use nak::write;
 use nak::write::WriteResult;
 
@@ -164,10 +169,16 @@ fn writing(case: &[u8], result: WriteResult) {
     }
 }
 
+// The bytes that a call left.
+fn left(buf: &[u8]) {
+    io::write_all(STDOUT_FILENO, b"left: ");
+    print_bytes(buf);
+    io::write_all(STDOUT_FILENO, b"\n");
+}
+
 fn normal_lists() {
     let numbers = [7u32; 16600];
     let mut buf = [0u8; 65543];
-    let mut short = [0u8; 23];
     let h = header(LargeFileFlag::Normal);
     writing(
         b"8,190 normal pairs",
@@ -192,10 +203,6 @@ fn normal_lists() {
     writing(
         b"scope end 4,294,967,296",
         write::write_normal_file_size(h, 0, 4294967296, &numbers[..2], &mut buf),
-    );
-    writing(
-        b"N into 23 bytes",
-        write::write_normal_file_size(h, 0, 1000, &numbers[..2], &mut short),
     );
 }
 
@@ -225,10 +232,85 @@ fn writes_n() {
     reading(&buf);
 }
 
+// A buffer one byte short is refused, and keeps every byte.
+fn one_byte_short() {
+    let numbers = [100u32, 200u32];
+    let mut buf = [0xEEu8; 23];
+    let h = header(LargeFileFlag::Normal);
+    writing(
+        b"N into 23 bytes",
+        write::write_normal_file_size(h, 0, 1000, &numbers, &mut buf),
+    );
+    left(&buf);
+}
+
+// N again: its room reserved, the pair filled in, the rest written around it.
+fn finishes_n() {
+    let mut buf = [0u8; 26];
+    let h = header(LargeFileFlag::Normal);
+    let result = ReservedNak::new(h, 1, &buf);
+    match result {
+        ReserveResult::Refused(refusal) => {
+            listing::print_refusal(refusal);
+        }
+        ReserveResult::Reserved(reserved) => {
+            be::write_be(&mut buf, reserved.area, 4, 100);
+            be::write_be(&mut buf, reserved.stop - 4, 4, 200);
+            writing(
+                b"N, reserved and finished",
+                reserved.finish(0, 1000, &mut buf),
+            );
+            left(&buf);
+        }
+    }
+}
+
+fn comparing(case: &[u8], result: CompareResult) {
+    io::write_all(STDOUT_FILENO, b"document 01, comparing N: ");
+    io::write_all(STDOUT_FILENO, case);
+    io::write_all(STDOUT_FILENO, b" -> ");
+    match result {
+        CompareResult::Refused(refusal) => {
+            listing::print_refusal(refusal);
+        }
+        CompareResult::Equal => {
+            io::write_all(STDOUT_FILENO, b"yes\n");
+        }
+        CompareResult::Different => {
+            io::write_all(STDOUT_FILENO, b"no\n");
+        }
+    }
+}
+
+fn compares_n() {
+    let n = N;
+    let numbers = [100u32, 200u32, 300u32, 400u32];
+    let h = header(LargeFileFlag::Normal);
+    comparing(
+        b"with itself",
+        compare::compare_normal_file_size(&n, h, 0, 1000, &numbers[..2]),
+    );
+    comparing(
+        b"with another pair behind",
+        compare::compare_normal_file_size(&n, h, 0, 1000, &numbers),
+    );
+    comparing(
+        b"with no list",
+        compare::compare_no_segment_requests(&n, h, 0, 1000),
+    );
+    comparing(
+        b"with three numbers",
+        compare::compare_normal_file_size(&n, h, 0, 1000, &numbers[..3]),
+    );
+}
+
 fn main() {
     checksums();
     readings();
     normal_lists();
+    one_byte_short();
     large_lists();
     writes_n();
+    finishes_n();
+    compares_n();
 }

@@ -243,6 +243,16 @@ pub number-take : (s : List ℕ) (n at w : ℕ) → at + w ≤ n → numberAt (t
 unfolding numberAt
 number-take s n at w h = ap beValue (part-take s n at w h)
 
+-- a number at a place is the first of what stands there
+pub number-drop : (s : List ℕ) (at w : ℕ) → numberAt (drop at s) 0 w ≡ numberAt s at w
+unfolding numberAt
+number-drop s at w = refl
+
+-- a byte is its own byte
+pub one-byte : (v : ℕ) → v < 256 → beBytes 1 v ≡ v ∷ []
+unfolding beBytes
+one-byte v h = ap (λ (b : ℕ). b ∷ []) (omega arith)
+
 -- ---- runs of stores, one behind the other, with no condition on what stands there (`sets` of the library)
 
 -- a number that lies in the slice and fits is such a run

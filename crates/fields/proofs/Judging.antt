@@ -50,6 +50,10 @@ pub passed-on : {A : Type 0} (ts us : List Test) (a : A) → Passed ts → first
 passed-on [] us a p = refl
 passed-on (t ∷ ts) us a p = rw (p .0) (passed-on ts us a (p .1))
 
+pub all-passed : {A : Type 0} (ts : List Test) (a : A) → Passed ts → firstOf ts a ≡ accepted a
+all-passed [] a p = refl
+all-passed (t ∷ ts) a p = rw (p .0) (all-passed ts a (p .1))
+
 -- no refusal is an acceptance
 module _ {A : Type 0} (ns : List ℕ) where
   pub told-no : (a : A) → told ns ≡ accepted a → ⊥

@@ -3,7 +3,7 @@
 use Prim.Native.Nat.{ℕ, _+_, _*_, _^_, _<_}
 use mathlib.Core.Path.{_≡_, refl, sym, ap, _∙_}
 use mathlib.Core.Bool.{true}
-use mathlib.Core.List.{List}
+use mathlib.Core.List.{List, _++_}
 use native.Mathlib.Omega.{arith}
 use lib.Dec.{lit<}
 use lib.ListN.{length, getD, take}
@@ -25,6 +25,7 @@ use Rattle.header.specs.declared.HeaderResult.the-variants.{Header, Refu
 use Rattle.header.specs.declared.LengthResult.{LengthResult}
 use Rattle.header.specs.declared.LengthResult.the-variants.{Length, Refused as NoLength}
 use Rattle.header.specs.Answers.{headerAnswer, lengthAnswer}
+use Rattle.header.specs.Header.{headerBytes}
 use Rattle.header.specs.Judging.{recordTests, building}
 use Rattle.header.specs.Reading.{entityWidthIn, sequenceWidthIn, headerLengthIn, headerIn, readingHeader}
 use Rattle.header.specs.Demands.{HeaderReadsBack, ReadIsSound, HeaderDemand3, OneHeaderResult, OneLengthResult}
@@ -63,11 +64,13 @@ widths-right : (h : PduHeader) → Passed (recordTests h) → (isWidth (h .sourc
 unfolding recordTests
 widths-right h p = (not-false _ (p .1 .0), not-false _ (p .1 .1 .0))
 
-pub header-reads-back : HeaderReadsBack
-header-reads-back h room n t small e =
-    let p = written-passed h room n (sym e) in
+pub sound-reads-back : (h : PduHeader) (t : List ℕ) → Passed (recordTests h) → h .length < 2 ^ 16 → run readingHeader (headerBytes h ++ t) ≡ accepted h
+sound-reads-back h t p small =
     let w = widths-right h p in
     reads-back h (sound h p) small t (w .0) (w .1)
+
+pub header-reads-back : HeaderReadsBack
+header-reads-back h room n t small e = sound-reads-back h t (written-passed h room n (sym e)) small
 
 -- ---- demand 2: what was read is sound
 

@@ -3,13 +3,13 @@
 use Prim.Native.Nat.{ℕ}
 use mathlib.Core.Path.{_≡_, refl, sym, ap, _∙_}
 use mathlib.Core.Bool.{true, false, not}
-use mathlib.Core.List.{List, [], _∷_}
+use mathlib.Core.List.{List, [], _∷_, _++_}
 use lib.Dec.{eqb}
 use borrow.Author.Tests.{eq-eqb, ne-eqb, eqb-true, not-false}
 use Rattle.fields.specs.Width.{isWidth, fitsWidth, fitsField}
-use Rattle.fields.specs.Answer.{Answer, accepted, told}
+use Rattle.fields.specs.Answer.{Answer, accepted, told, Test, firstOf}
 use Rattle.fields.proofs.Width.{width-small, fits-lt}
-use Rattle.fields.proofs.Judging.{Passed, passed}
+use Rattle.fields.proofs.Judging.{Passed, passed, refused-on}
 use Rattle.header.specs.declared.PduHeader.{PduHeader}
 use Rattle.header.specs.declared.flags.Direction.{Direction}
 use Rattle.header.specs.declared.flags.LargeFileFlag.{LargeFileFlag}
@@ -51,6 +51,11 @@ module _ (h : PduHeader) where
             all-right f = rw (eq-eqb _ _ same, entity, sequence, source-fits, sequence-fits, f)
 
 -- a record that was accepted passed every test
+-- what the judgement of a record refuses, every judgement that begins with it refuses alike
+pub refused-first : {A : Type 0} (h : PduHeader) (us : List Test) (a : A) (ns : List ℕ) → told ns ≡ building h → told ns ≡ firstOf (recordTests h ++ us) a
+unfolding building
+refused-first h us a ns e = refused-on ns (recordTests h) us h a e
+
 pub passed-tests : (h k : PduHeader) → accepted k ≡ building h → Passed (recordTests h)
 unfolding building
 passed-tests h k e = passed (recordTests h) k h e .0

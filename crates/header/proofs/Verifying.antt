@@ -2,18 +2,19 @@
 -- Assumes nothing.
 use Prim.Native.Nat.{ℕ, _+_, _-_, _*_, _≤_, _<_}
 use mathlib.Core.Path.{_≡_, refl, sym, ap, _∙_}
-use mathlib.Core.Bool.{Bool, true, false}
-use mathlib.Core.List.{List, [], _∷_}
+use mathlib.Core.Bool.{Bool, true, false, _&&_, not}
+use mathlib.Core.List.{List, [], _∷_, _++_}
 use native.Mathlib.Omega.{arith}
-use lib.ListN.{length, take}
-use lib.Seq.{length-take-le}
+use lib.Dec.{eqb}
+use lib.ListN.{length, take, length-append}
+use lib.Seq.{length-take-le, take-at}
 use borrow.Author.Tests.{lt-ltb, le-ltb, eq-eqb, ne-eqb}
 use Rattle.fields.specs.BigEndian.{numberAt, beAt, bePut}
 use Rattle.fields.specs.Checksum.{checksumOf}
 use Rattle.fields.specs.Answer.{Answer, accepted, told}
 use Rattle.fields.specs.Staged.{run}
 use Rattle.fields.specs.Demand3.{AtMost}
-use Rattle.fields.proofs.Checksum.{checksum-lt}
+use Rattle.fields.proofs.Checksum.{checksum-lt, residue}
 use Rattle.fields.proofs.BigEndian.{at-number, be-length, put-beyond, put-sets}
 use lib.Seq.{sets}
 use Rattle.header.proofs.FlagBits.{crc-bit}
@@ -81,14 +82,10 @@ pub verified-refused : (h : PduHeader) (s ns : List ℕ) → told ns ≡ run (ve
 unfolding verifyingRead
 verified-refused h s ns e = told-before ns (pduBytes h) (dataEnd h) s e
 
--- the data ends within the PDU, which has at least seven bytes of header where the widths are at least one
+-- the data ends within the PDU
 pub end-le : (h : PduHeader) → dataEnd h ≤ pduLength h
 unfolding dataEnd
 end-le h = omega arith
-
-pub header-le : (h : PduHeader) → headerLength h ≤ pduLength h
-unfolding pduLength
-header-le h = omega arith
 
 -- a PDU asks for its bytes once, and what it hands on are its first P bytes
 pub pdu-one : (h : PduHeader) → AtMost (pduBytes h) 1
@@ -133,3 +130,17 @@ pdu-sum h = refl
 pub end-sum : (h : PduHeader) → dataEnd h + 2 * crcBit (h .crc) ≡ pduLength h
 unfolding dataEnd
 end-sum h = let l = at-least h (pduLength h) refl in omega (arith, crc-bit (h .crc))
+
+-- ---- a message that was closed by its checksum verifies, whatever follows it
+
+sum-good : (flag : CrcFlag) (m : List ℕ) → (eqb (crcBit flag) 1 && not (eqb (checksumOf (m ++ checksumBytes flag m)) 0)) ≡ false
+sum-good NoCrc m = refl
+sum-good WithCrc m = rw (residue m)
+
+pub closed-verifies : (h : PduHeader) (m p t : List ℕ) → p ≡ m ++ checksumBytes (h .crc) m → length p ≡ pduLength h → run (pduBytes h) (p ++ t) ≡ accepted p
+unfolding pduBytes
+closed-verifies h m p t e l =
+    let long : pduLength h ≤ length (p ++ t) = omega (arith, length-append p t) in
+    let first : take (pduLength h) (p ++ t) ≡ p = take-at p t (pduLength h) l in
+    let good : (eqb (crcBit (h .crc)) 1 && not (eqb (checksumOf p) 0)) ≡ false = ap (λ (x : List ℕ). eqb (crcBit (h .crc)) 1 && not (eqb (checksumOf x) 0)) e ∙ sum-good (h .crc) m in
+    rw (le-ltb _ _ long, first, good)

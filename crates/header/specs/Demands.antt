@@ -1,6 +1,7 @@
 -- What is proved of this layer, beside the demand that it meets.
 use Prim.Native.Nat.{ℕ, _^_, _<_}
 use mathlib.Core.Path.{_≡_}
+use mathlib.Core.Bool.{true}
 use mathlib.Core.List.{List, _++_}
 use Rattle.fields.specs.BigEndian.{Bytes}
 use Rattle.fields.specs.Answer.{accepted}
@@ -14,6 +15,7 @@ use Rattle.header.specs.Answers.{headerAnswer, lengthAnswer}
 use Rattle.header.specs.Judging.{building}
 use Rattle.header.specs.Reading.{readingHeader}
 use Rattle.header.specs.Writing.{writingHeader}
+use Rattle.header.specs.Comparing.{sameHeader}
 
 -- DEMAND 2: what is written, followed by anything, reads back as the same header
 abbrev pub HeaderReadsBack : Type 0
@@ -22,6 +24,23 @@ HeaderReadsBack = (h : PduHeader) (room written : ℕ) (t : List ℕ) → h .len
 -- DEMAND 2: a header that was read from bytes passes the judgement of a record
 abbrev pub ReadIsSound : Type 0
 ReadIsSound = (s : List ℕ) (h : PduHeader) → Bytes s → run readingHeader s ≡ accepted h → building h ≡ accepted h
+
+-- two headers that are the same share every flag, d, and the numbers of their identifiers
+pub record SameFields (a b : PduHeader) : Type 0 where
+  pub kind : a .kind ≡ b .kind
+  pub direction : a .direction ≡ b .direction
+  pub mode : a .mode ≡ b .mode
+  pub crc : a .crc ≡ b .crc
+  pub file : a .file ≡ b .file
+  pub control : a .control ≡ b .control
+  pub metadata : a .metadata ≡ b .metadata
+  pub length : a .length ≡ b .length
+  pub source : a .source .0 .value ≡ b .source .0 .value
+  pub sequence : a .sequence .0 .value ≡ b .sequence .0 .value
+  pub destination : a .destination .0 .value ≡ b .destination .0 .value
+
+abbrev pub SameHeaderShares : Type 0
+SameHeaderShares = (a b : PduHeader) → sameHeader a b ≡ true → SameFields a b
 
 -- DEMAND 3: at most two refusals as short
 abbrev pub HeaderDemand3 : Type 0

@@ -12,9 +12,8 @@ use borrow.Author.Tests.{lt-leb, le-leb, eqb-true, eqb-false, eq-eqb, ne-eqb}
 use Rattle.fields.specs.BigEndian.{numberAt, beAt}
 use Rattle.fields.specs.Answer.{Answer, accepted, told, andThen}
 use Rattle.fields.specs.Staged.{run}
-use Rattle.fields.proofs.BigEndian.{at-number}
+use Rattle.fields.proofs.BigEndian.{at-number, number-drop}
 use Rattle.fields.proofs.Judging.{told-on}
-use Rattle.fields.proofs.OneToOne.{answerBack, told-back, one-to-one}
 use Rattle.header.specs.declared.PduHeader.{PduHeader}
 use Rattle.header.specs.declared.flags.LargeFileFlag.{LargeFileFlag}
 use Rattle.header.specs.Comparing.{sameHeader}
@@ -63,11 +62,12 @@ module _ (file : LargeFileFlag) (h : PduHeader) (start end count : ℕ) (s : Lis
 
 module _ (w : ℕ) (area ns : List ℕ) (at i : ℕ) (in-area : at ≤ length area) (more : i < length ns) where
   here : holdsNumbers w (drop at area) (drop i ns) ≡ (leb w (length area - at) && eqb (numberAt area at w) (getD ns i 0) && holdsNumbers w (drop (at + w) area) (drop (i + 1) ns))
-  unfolding holdsNumbers numberAt
+  unfolding holdsNumbers
   here =
       let v = getD ns i 0 in
       let one : suc i ≡ i + 1 = omega arith in
       ap (holdsNumbers w (drop at area)) (drop-cons ns i 0 more)
+      ∙ ap (λ (x : ℕ). leb w (length (drop at area)) && eqb x v && holdsNumbers w (drop w (drop at area)) (drop (suc i) ns)) (number-drop area at w)
       ∙ ap (λ (k : ℕ). leb w k && eqb (numberAt area at w) v && holdsNumbers w (drop w (drop at area)) (drop (suc i) ns)) (length-drop at area)
       ∙ ap (λ (z : List ℕ). leb w (length area - at) && eqb (numberAt area at w) v && holdsNumbers w z (drop (suc i) ns)) (drop-drop w at area)
       ∙ ap (λ (k : ℕ). leb w (length area - at) && eqb (numberAt area at w) v && holdsNumbers w (drop (at + w) area) (drop k ns)) one

@@ -6,24 +6,22 @@ use mathlib.Core.List.{List, [], _∷_}
 use native.Mathlib.Omega.{arith}
 use borrow.Author.Tests.{lt-ltb, le-ltb}
 use Rattle.fields.specs.Answer.{accepted, told, firstOf}
-use Rattle.fields.proofs.Judging.{Passed, passed-on, refused-on}
-use Rattle.fields.proofs.OneToOne.{answerBack, told-back, one-to-one}
+use Rattle.fields.proofs.Judging.{Passed, passed-on}
+use Rattle.header.proofs.Judging.{refused-first}
 use Rattle.header.specs.declared.PduHeader.{PduHeader}
 use Rattle.header.specs.Flags.{crcBit}
 use Rattle.header.specs.Header.{headerLength}
 use Rattle.header.specs.Judging.{recordTests, building}
-use Rattle.nak.specs.declared.count.CountResult.{CountResult}
-use Rattle.nak.specs.declared.count.CountResult.the-variants.{Count, Refused}
 use Rattle.nak.specs.Nak.{offsetWidth, pairSize, areaStart}
-use Rattle.nak.specs.Counting.{countAnswer, leastPacket, packetTooSmall, mostRequests}
+use Rattle.nak.specs.Counting.{leastPacket, packetTooSmall, mostRequests}
 
 pub least-is : (h : PduHeader) (a w b : ℕ) → a ≡ headerLength h → w ≡ offsetWidth (h .file) → b ≡ crcBit (h .crc) → a + 1 + 2 * w + 2 * b ≡ leastPacket h
 unfolding leastPacket areaStart
 least-is h a w b p q r = rw (p, q, r)
 
 pub refused-count : (h : PduHeader) (size : ℕ) (ns : List ℕ) → told ns ≡ building h → told ns ≡ mostRequests h size
-unfolding building mostRequests
-refused-count h size ns e = refused-on ns (recordTests h) (packetTooSmall h size ∷ []) h _ e
+unfolding mostRequests
+refused-count h size ns e = refused-first h (packetTooSmall h size ∷ []) _ ns e
 
 module _ (h : PduHeader) (size : ℕ) (good : Passed (recordTests h)) (least : ℕ) (is : least ≡ leastPacket h) where
   rest : mostRequests h size ≡ firstOf (packetTooSmall h size ∷ []) ((size - leastPacket h) / pairSize (h .file))
@@ -36,11 +34,3 @@ module _ (h : PduHeader) (size : ℕ) (good : Passed (recordTests h)) (least : �
 
   pub counted : (pair : ℕ) → pair ≡ pairSize (h .file) → least ≤ size → accepted ((size - least) / pair) ≡ mostRequests h size
   counted pair p l = rw (rest, ← is, le-ltb _ _ l, ← p)
-
--- the promise leaves one answer
-count-back : (r : CountResult) → answerBack Count Refused (countAnswer r) ≡ r
-count-back (Count n) = refl
-count-back (Refused r) = told-back Count Refused r
-
-pub one-count-result : (a b : CountResult) → countAnswer a ≡ countAnswer b → a ≡ b
-one-count-result = one-to-one countAnswer (answerBack Count Refused) count-back

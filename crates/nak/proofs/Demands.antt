@@ -1,7 +1,8 @@
--- The statements of specs/Demands on readings, proved.
+-- The statements of specs/Demands on readings and on single answers, proved; those on round trips stand in RoundTrip.
 -- Assumes nothing.
 use Prim.Native.Nat.{ℕ, _+_, _-_, _*_, _/_, _≤_, _<_}
 use mathlib.Core.Path.{_≡_, refl, sym, ap, subst, _∙_}
+use mathlib.Core.Bool.{Bool, true, false}
 use mathlib.Core.List.{List, [], _∷_, _++_}
 use native.Mathlib.Omega.{arith}
 use lib.ListN.{length, take, drop, length-take, length-drop}
@@ -21,10 +22,22 @@ use Rattle.header.proofs.Verifying.{end-le, pdu-one, pdu-is}
 use Rattle.nak.specs.declared.Nak.{Nak}
 use Rattle.nak.specs.declared.NakResult.{NakResult}
 use Rattle.nak.specs.declared.NakResult.the-variants.{Nak as Read, Refused}
+use Rattle.nak.specs.declared.write.WriteResult.{WriteResult}
+use Rattle.nak.specs.declared.write.WriteResult.the-variants.{Written, Refused as NotWritten}
+use Rattle.nak.specs.declared.reserve.ReserveResult.{ReserveResult}
+use Rattle.nak.specs.declared.reserve.ReserveResult.the-variants.{Reserved, Refused as NotReserved}
+use Rattle.nak.specs.declared.count.CountResult.{CountResult}
+use Rattle.nak.specs.declared.count.CountResult.the-variants.{Count, Refused as NotCounted}
+use Rattle.nak.specs.declared.compare.CompareResult.{CompareResult}
+use Rattle.nak.specs.declared.compare.CompareResult.the-variants.{Equal, Different, Refused as NotCompared}
 use Rattle.nak.specs.Nak.{pairSize, areaStart, nakIn}
+use Rattle.nak.specs.Writing.{writeAnswer}
+use Rattle.nak.specs.Reserving.{reserveAnswer}
+use Rattle.nak.specs.Counting.{countAnswer}
+use Rattle.nak.specs.Comparing.{compareAnswer}
 use Rattle.nak.specs.Reading.{nakAnswer, readingScope, readingDirective, readingData, readingNak}
 use Rattle.nak.specs.Requests.{areaOf, pairsOf}
-use Rattle.nak.specs.Demands.{Shows, AcceptedShows, OneNakResult, NakDemand3, Readings, CodeDemand3}
+use Rattle.nak.specs.Demands.{Shows, AcceptedShows, OneNakResult, OneWriteResult, OneReserveResult, OneCountResult, OneCompareResult, NakDemand3, Readings, CodeDemand3}
 use Rattle.nak.proofs.Walking.{within, pairs-count}
 
 -- ---- one answer
@@ -35,6 +48,41 @@ nak-back (Refused r) = told-back Read Refused r
 
 pub one-nak-result : OneNakResult
 one-nak-result = one-to-one nakAnswer (answerBack Read Refused) nak-back
+
+write-back : (r : WriteResult) → answerBack Written NotWritten (writeAnswer r) ≡ r
+write-back (Written w) = refl
+write-back (NotWritten r) = told-back Written NotWritten r
+
+pub one-write-result : OneWriteResult
+one-write-result = one-to-one writeAnswer (answerBack Written NotWritten) write-back
+
+reserve-back : (r : ReserveResult) → answerBack Reserved NotReserved (reserveAnswer r) ≡ r
+reserve-back (Reserved r) = refl
+reserve-back (NotReserved r) = told-back Reserved NotReserved r
+
+pub one-reserve-result : OneReserveResult
+one-reserve-result = one-to-one reserveAnswer (answerBack Reserved NotReserved) reserve-back
+
+count-back : (r : CountResult) → answerBack Count NotCounted (countAnswer r) ≡ r
+count-back (Count n) = refl
+count-back (NotCounted r) = told-back Count NotCounted r
+
+pub one-count-result : OneCountResult
+one-count-result = one-to-one countAnswer (answerBack Count NotCounted) count-back
+
+-- yes and no are two answers
+verdictOf : Bool → CompareResult
+verdictOf true = Equal
+verdictOf false = Different
+
+compare-back : (r : CompareResult) → answerBack verdictOf NotCompared (compareAnswer r) ≡ r
+unfolding verdictOf
+compare-back Equal = refl
+compare-back Different = refl
+compare-back (NotCompared r) = told-back verdictOf NotCompared r
+
+pub one-compare-result : OneCompareResult
+one-compare-result = one-to-one compareAnswer (answerBack verdictOf NotCompared) compare-back
 
 -- ---- demand 3
 
@@ -86,7 +134,7 @@ in-bytes h p s l m =
     let n = nakIn h p in
     let a : areaOf n s ≡ take (dataEnd h - areaStart h) (drop (areaStart h) s) = sym (within n s l m) in
     let k : length (areaOf n s) ≡ dataEnd h - areaStart h = ap length a ∙ simp (length-take, length-drop) (omega arith) in
-    record { area = a; inside = m; count = pairs-count (h .file) (areaOf n s) ∙ ap (λ (j : ℕ). j / pairSize (h .file)) k }
+    record { from = refl; up-to = refl; area = a; inside = m; count = pairs-count (h .file) (areaOf n s) ∙ ap (λ (j : ℕ). j / pairSize (h .file)) k }
 
 pub accepted-shows : AcceptedShows
 unfolding readingNak readingData

@@ -9,3 +9,4 @@ pub mod Counting
 pub mod Comparing
 pub mod Cases
 pub mod Demands
+pub mod RoundTrip

@@ -11,28 +11,26 @@ use lib.Seq.{sets, sets-eq, drop-drop, length-take-le}
 use borrow.Author.Tests.{lt-ltb, le-ltb, ltb-false, not-false}
 use Rattle.fields.specs.Answer.{Answer, accepted, told, firstOf, leaves}
 use Rattle.fields.proofs.Judging.{Passed, passed, passed-first, passed-last, passed-on, refused-on, told-leaves}
-use Rattle.fields.proofs.OneToOne.{answerBack, told-back, one-to-one}
 use Rattle.header.specs.declared.PduHeader.{PduHeader}
 use Rattle.header.specs.Flags.{crcBit}
 use Rattle.header.specs.Header.{pduLength, dataEnd}
 use Rattle.header.specs.Judging.{recordTests, building}
 use Rattle.header.specs.Verifying.{crcAdded}
+use Rattle.header.proofs.Judging.{refused-first}
 use Rattle.header.proofs.Verifying.{end-sum}
 use Rattle.nak.specs.declared.write.NakWritten.{NakWritten}
 use Rattle.nak.specs.declared.reserve.ReservedNak.{ReservedNak}
-use Rattle.nak.specs.declared.reserve.ReserveResult.{ReserveResult}
-use Rattle.nak.specs.declared.reserve.ReserveResult.the-variants.{Reserved, Refused}
 use Rattle.nak.specs.Nak.{offsetWidth, areaStart}
 use Rattle.nak.specs.Writing.{startBytes, nakOver, mostPairs, filled, scopeFits, scopeTooLarge, tooMany, noRoom, judgingNak, intoRoom, writingNak}
-use Rattle.nak.specs.Reserving.{reserveAnswer, pairTests, keeping, judgingPairs, placed, reserving, finishing, areaIn, finishedMemory}
+use Rattle.nak.specs.Reserving.{pairTests, keeping, judgingPairs, placed, reserving, finishing, areaIn, finishedMemory}
 use Rattle.nak.proofs.Writing.{ToWrite, to-write, judged-nak, into-room, filled-flag, start-length, sealed}
 
 -- ---- the judgement of the pairs
 
 module _ (h : PduHeader) (n : ℕ) where
   pub refused-pairs : (ns : List ℕ) → told ns ≡ building h → told ns ≡ judgingPairs h n
-  unfolding building judgingPairs pairTests
-  refused-pairs ns e = refused-on ns (recordTests h) _ h _ e
+  unfolding judgingPairs pairTests
+  refused-pairs ns e = refused-first h _ _ ns e
 
   module _ (good : Passed (recordTests h)) (most : ℕ) (pm : most ≡ mostPairs (h .file)) where
     rest : judgingPairs h n ≡ firstOf (tooMany (h .file) n ∷ []) (keeping h n)
@@ -168,12 +166,3 @@ finished r start end s w n b₁ b₂ e pn e₁ e₂ =
     let lB : length B ≡ dataEnd k - areaStart k = length-take-le (dataEnd k - areaStart k) (drop (areaStart k) s) (omega (arith, length-drop (areaStart k) s)) in
     let p₁ : b₁ ≡ sets s 0 (A ++ B) = e₁ ∙ in-place A s (dataEnd k - areaStart k) (omega arith) ∙ ap (λ (j : ℕ). sets s 0 (A ++ take (dataEnd k - areaStart k) (drop j s))) lA in
     (e, sealed k start end n B s b₁ b₂ (omega arith) (omega arith) p₁ e₂ ∙ ap (λ (o : Answer NakWritten). leaves o (λ (x : NakWritten). nakOver (x .header) start end (take (dataEnd (x .header) - areaStart (x .header)) (drop (areaStart (x .header)) s))) s) e)
-
--- ---- the promise leaves one answer
-
-reserve-back : (r : ReserveResult) → answerBack Reserved Refused (reserveAnswer r) ≡ r
-reserve-back (Reserved r) = refl
-reserve-back (Refused r) = told-back Reserved Refused r
-
-pub one-reserve-result : (a b : ReserveResult) → reserveAnswer a ≡ reserveAnswer b → a ≡ b
-one-reserve-result = one-to-one reserveAnswer (answerBack Reserved Refused) reserve-back

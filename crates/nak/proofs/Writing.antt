@@ -27,15 +27,12 @@ use Rattle.header.specs.Header.{headerLength, pduLength, headerBytes, withDirec
 use Rattle.header.specs.Judging.{recordTests, building}
 use Rattle.header.specs.Writing.{headerMemory}
 use Rattle.header.specs.Verifying.{checksumBytes, crcAdded}
-use Rattle.header.proofs.Judging.{with-tests}
+use Rattle.header.proofs.Judging.{with-tests, refused-first}
 use Rattle.header.proofs.Writing.{header-length, with-length, header-stored}
 use Rattle.header.proofs.Verifying.{pdu-sum, added-sets, checksum-length}
-use Rattle.fields.proofs.OneToOne.{answerBack, told-back, one-to-one}
 use Rattle.nak.specs.declared.write.NakWritten.{NakWritten}
-use Rattle.nak.specs.declared.write.WriteResult.{WriteResult}
-use Rattle.nak.specs.declared.write.WriteResult.the-variants.{Written, Refused}
 use Rattle.nak.specs.Nak.{offsetWidth, pairSize, areaStart}
-use Rattle.nak.specs.Writing.{writeAnswer, numbersBytes, startBytes, nakOver, nakBytes, dataLength, mostPairs, filled, scopeFits, oddCount, scopeTooLarge, tooMany, noRoom, nakTests, judgingNak, intoRoom, writingNak, nakMemory}
+use Rattle.nak.specs.Writing.{numbersBytes, startBytes, nakOver, nakBytes, dataLength, mostPairs, filled, scopeFits, oddCount, scopeTooLarge, tooMany, noRoom, nakTests, judgingNak, intoRoom, writingNak, nakMemory}
 
 -- ---- the scope
 
@@ -74,8 +71,8 @@ filled-is file n d h a b c p q r s = s ∙ ap₂ withLength p (r ∙ ap (withFil
 
 module _ (file : LargeFileFlag) (h : PduHeader) (start end count : ℕ) where
   pub refused-nak : (ns : List ℕ) → told ns ≡ building h → told ns ≡ judgingNak file h start end count
-  unfolding building judgingNak nakTests
-  refused-nak ns e = refused-on ns (recordTests h) _ h _ e
+  unfolding judgingNak nakTests
+  refused-nak ns e = refused-first h _ _ ns e
 
   module _ (good : Passed (recordTests h)) where
     rest : judgingNak file h start end count ≡ firstOf (oddCount count ∷ scopeTooLarge file start end ∷ tooMany file (count / 2) ∷ []) (filled file (count / 2) h)
@@ -185,7 +182,7 @@ numbers-length w (n ∷ ns) = simp (length-append, be-length, numbers-length w n
 -- ---- what an accepted write has
 
 -- count numbers of w bytes are so many pairs
-doubled : (file : LargeFileFlag) (count : ℕ) → count ≡ 2 * (count / 2) → (count / 2) * pairSize file ≡ offsetWidth file * count
+pub doubled : (file : LargeFileFlag) (count : ℕ) → count ≡ 2 * (count / 2) → (count / 2) * pairSize file ≡ offsetWidth file * count
 doubled Normal count e = omega arith
 doubled Large count e = omega arith
 
@@ -290,12 +287,3 @@ unfolding numbersBytes
 none-written file h start end s w n b₁ b₃ e pn e₁ e₃ =
     let z : n ≡ n + offsetWidth file * 0 = omega arith in
     nak-written file h start end [] s w e (offsetWidth file) n b₁ b₁ b₃ refl pn e₁ refl (e₃ ∙ ap (λ (j : ℕ). crcAdded (w .header .crc) j b₁) z)
-
--- ---- the promise leaves one answer
-
-write-back : (r : WriteResult) → answerBack Written Refused (writeAnswer r) ≡ r
-write-back (Written w) = refl
-write-back (Refused r) = told-back Written Refused r
-
-pub one-write-result : (a b : WriteResult) → writeAnswer a ≡ writeAnswer b → a ≡ b
-one-write-result = one-to-one writeAnswer (answerBack Written Refused) write-back
