@@ -1,7 +1,7 @@
 #!/bin/sh
 # Checks the oracle that ../build.sh built: the Rust's files are as published, document 01's cases
 # get the answers written by hand in smoke.expected, the lines of silent.txt those recorded from the
-# Rust, and naklist prints what document 01 says.
+# Rust, naklist prints what document 01 says, and the kept replay list is the one that is written.
 # The last line is 'N passed, M failed'; ends with 1 if anything failed.
 set -eu
 here=$(cd "$(dirname "$0")" && pwd)
@@ -72,6 +72,10 @@ expect "SHA256SUMS" "$work/expected" "$work/seen"
 grep -o '4 passed; 0 failed' "$work/said" > "$work/seen" || cp "$work/said" "$work/seen"
 echo '4 passed; 0 failed' > "$work/expected"
 expect "the comparer's own tests" "$work/expected" "$work/seen"
+
+# The list that the program of crates/replay is run on has the Rust's answers.
+"$bin/replay_list" > "$work/seen" 2> "$work/said"
+expect "crates/replay/stdin" "$here/../../crates/replay/stdin" "$work/seen"
 
 lines smoke
 lines silent

@@ -1,0 +1,53 @@
+-- `replay::expected::numbers` is safe and ends: the place is within the numbers, and rises.
+-- Assumes nothing.
+use Prim.Native.Nat.{_≤_, _-_, _*_}
+use mathlib.Core.Path.{_≡_}
+use lib.ListN.{length}
+use borrow.Author.Needs.{needs}
+use Rattle.replay.proofs.expected.numbers.Statement.{statement}
+use Rattle.replay.proofs.expected.numbers.Tie as tie
+
+abbrev Inv-loop : tie.InvT-loop
+Inv-loop found count rest same₀ i₀ same i = i ≤ length found
+
+abbrev μ-loop : tie.MeasureT-loop
+μ-loop found count rest same₀ i₀ same i = length found - i
+
+loop-holds : tie.Need-loop-holds Inv-loop μ-loop
+loop-holds c = search needs
+
+mul-if1 : tie.Need-mul-if1 Inv-loop μ-loop
+mul-if1 c = search needs
+
+shared-slice-read-if1 : tie.Need-shared-slice-read-if1 Inv-loop μ-loop
+shared-slice-read-if1 c = search needs
+
+number-or-requires : tie.Need-number-or-requires Inv-loop μ-loop
+number-or-requires c κs = search needs
+
+add-i : tie.Need-add-i Inv-loop μ-loop
+add-i c = search needs
+
+loop-less : tie.Need-loop-less Inv-loop μ-loop
+loop-less c = search needs
+
+loop-again : tie.Need-loop-again Inv-loop μ-loop
+loop-again c = search needs
+
+returns : tie.Need-returns Inv-loop μ-loop
+returns c = search needs
+
+pub numbers-spec : {M : Type 1} → statement M
+numbers-spec =
+    tie.close
+    (tie.spec
+    Inv-loop
+    μ-loop
+    loop-holds
+    mul-if1
+    shared-slice-read-if1
+    number-or-requires
+    add-i
+    loop-less
+    loop-again
+    returns)
