@@ -132,7 +132,6 @@ pub fn finish(record: &Record, count: usize, scope: &Scope, buf: &mut [u8]) -> S
     Ok(show::finished(&before, numbers[14] as usize))
 }
 
-#[cfg(comparison)]
 pub fn compare(bytes: &[u8], nak: &Nak) -> Said {
     let scope = (nak.scope.start, nak.scope.end);
     let header = header_of(&nak.record)?;

@@ -41,11 +41,8 @@ mod raw {
         pub fn cfdp_nak_reserve(shape: Shape, ids: Ids, pairs: usize, buf: *const u8, len: usize, answer: Into);
         pub fn cfdp_nak_finish(shape: Shape, ids: Ids, pairs: usize, start: u64, end: u64, buf: *mut u8, len: usize, answer: Into);
         pub fn cfdp_nak_most(shape: Shape, ids: Ids, packet: usize, answer: Into);
-        #[cfg(comparison)]
         pub fn cfdp_nak_compare(bytes: *const u8, len: usize, shape: Shape, ids: Ids, start: u64, end: u64, answer: Into);
-        #[cfg(comparison)]
         pub fn cfdp_nak_compare_normal(bytes: *const u8, len: usize, shape: Shape, ids: Ids, start: u64, end: u64, numbers: *const u32, count: usize, answer: Into);
-        #[cfg(comparison)]
         pub fn cfdp_nak_compare_large(bytes: *const u8, len: usize, shape: Shape, ids: Ids, start: u64, end: u64, numbers: *const u64, count: usize, answer: Into);
     }
 }
@@ -154,7 +151,6 @@ pub fn nak_most(header: &Header, packet: usize, answer: &mut Answer) {
 }
 
 /// 1 for equal, 0 for different
-#[cfg(comparison)]
 pub fn nak_compare(bytes: &[u8], header: &Header, scope: Scope, answer: &mut Answer) {
     let (Header { shape, ids }, (start, end)) = (header, scope);
     let (at, len) = (bytes.as_ptr(), bytes.len());
@@ -162,7 +158,6 @@ pub fn nak_compare(bytes: &[u8], header: &Header, scope: Scope, answer: &mut Ans
 }
 
 /// 1 for equal, 0 for different
-#[cfg(comparison)]
 pub fn nak_compare_normal(
     bytes: &[u8],
     header: &Header,
@@ -177,7 +172,6 @@ pub fn nak_compare_normal(
 }
 
 /// 1 for equal, 0 for different
-#[cfg(comparison)]
 pub fn nak_compare_large(
     bytes: &[u8],
     header: &Header,

@@ -25,7 +25,6 @@ fn perform(command: Command) -> String {
         Finish(record, count, scope, buf) => {
             lending(buf, |b| base::finish(&record, count, &scope, b))
         }
-        #[cfg(comparison)]
         Compare(bytes, nak) => asked(base::compare(&bytes, &nak)),
         _ => show::LACKING.to_string(),
     }

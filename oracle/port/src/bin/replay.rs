@@ -147,11 +147,8 @@ fn call(code: u64, inputs: &mut Inputs) -> Answer {
         10 => ffi::nak_write_large(header, scope, large, buf, a),
         11 => ffi::nak_reserve(header, size, buf, a),
         12 => ffi::nak_finish(header, size, scope, buf, a),
-        #[cfg(comparison)]
         13 => ffi::nak_compare(bytes, header, scope, a),
-        #[cfg(comparison)]
         14 => ffi::nak_compare_normal(bytes, header, scope, normal, a),
-        #[cfg(comparison)]
         15 => ffi::nak_compare_large(bytes, header, scope, large, a),
         _ => (),
     }
