@@ -1,14 +1,14 @@
--- The pairs of a request area: the one of an index is the one that the cursor shows at its place, and storing pairs one after the other stores their numbers.
+-- The pairs of a request area: the one of an index is the one that the cursor shows in its bytes, and storing pairs one after the other stores their numbers.
 -- Assumes nothing.
-use Prim.Native.Nat.{ℕ, zero, suc, _+_, _*_, _/_, _≤_, _<_}
+use Prim.Native.Nat.{ℕ, zero, suc, _+_, _-_, _*_, _/_, _≤_, _<_}
 use mathlib.Core.Path.{_≡_, refl, sym, ap, ap₂, _∙_}
 use mathlib.Core.Bool.{Bool, true, false}
 use mathlib.Core.List.{List, [], _∷_, _++_}
 use native.Mathlib.Omega.{arith}
-use native.Mathlib.Nat.{div-add-mod', mul-le-mul-right, not-suc-le-zero, zero-add}
+use native.Mathlib.Nat.{div-add-mod', mul-le-mul-right, not-suc-le-zero, zero-add, add-zero}
 use native.Mathlib.Numerals.{add-one}
 use lib.Dec.{ltb, leb}
-use lib.ListN.{length, getD, take, drop, set, List·getD-eq-default, length-take, length-set}
+use lib.ListN.{length, getD, take, drop, set, List·getD-eq-default, length-take, length-drop, length-set}
 use lib.Seq.{sets, sets-eq, drop-cons, drop-length, getD-take}
 use borrow.Author.Tests.{lt-ltb, le-ltb, le-leb, ltb-true, ltb-false}
 use Rattle.fields.specs.BigEndian.{numberAt}
@@ -20,6 +20,7 @@ use Rattle.nak.specs.declared.requests.NextRequest.the-variants.{Pair, End}
 use Rattle.nak.specs.Nak.{offsetWidth, pairSize}
 use Rattle.nak.specs.Requests.{pairsFrom, pairsOf, nextRequest}
 use Rattle.nak.specs.Cases.{flat}
+use Rattle.nak.proofs.Parts.{number-part}
 use Rattle.nak.proofs.Walking.{pairs-count}
 use Rattle.cfdp_nak.specs.declared.read.Found.{Found}
 use Rattle.cfdp_nak.specs.Pairs.{pairsIn, isPair, pairAt, copied, copiedInto}
@@ -39,9 +40,6 @@ pairs-at w a at (suc n) (suc i) h =
     let e : at + 2 * w + i * (2 * w) ≡ at + suc i * (2 * w) = omega arith in
     pairs-at w a (at + 2 * w) n i (omega arith) ∙ ap (pairOf w a) e
 
-abbrev pairThere : Bool → List ℕ → ℕ → NextRequest
-pairThere large a i = Pair (numberAt a (i * pairSize (fileIf large)) (offsetWidth (fileIf large))) (numberAt a (i * pairSize (fileIf large) + offsetWidth (fileIf large)) (offsetWidth (fileIf large))) (record { at = i * pairSize (fileIf large) + pairSize (fileIf large) })
-
 -- a pair whose index is below the count of whole ones lies in the area
 pub whole-pair : (n size i : ℕ) → i < n / size → i * size + size ≤ n
 whole-pair n size i h = omega (arith, div-add-mod' n size, mul-le-mul-right size h)
@@ -59,34 +57,44 @@ module _ (large : Bool) (a : List ℕ) (i : ℕ) where
     below : i < length a / pairSize (fileIf large)
     below = rw es at h
 
-    at-pair : getD (pairsIn large a) i (0, 0) ≡ pairOf (offsetWidth (fileIf large)) a (i * pairSize (fileIf large))
+    -- the bytes of one offset
+    abbrev width : ℕ
+    width = offsetWidth (fileIf large)
+
+    -- the pair's bytes
+    abbrev part : List ℕ
+    part = take (i * size + size - i * size) (drop (i * size) a)
+
+    at-pair : getD (pairsIn large a) i (0, 0) ≡ pairOf width a (i * size)
     unfolding pairsOf
     at-pair =
-        let e : 0 + i * pairSize (fileIf large) ≡ i * pairSize (fileIf large) = omega arith in
-        pairs-at (offsetWidth (fileIf large)) a 0 (length a / pairSize (fileIf large)) i below ∙ ap (pairOf (offsetWidth (fileIf large)) a) e
+        let e : 0 + i * pairSize (fileIf large) ≡ i * size = omega (arith, ap (λ (k : ℕ). i * k) es) in
+        pairs-at width a 0 (length a / pairSize (fileIf large)) i below ∙ ap (pairOf width a) e
 
-    -- the cursor shows it at its place
-    shows : (file : LargeFileFlag) → file ≡ fileIf large → nextRequest a file (i * size) ≡ pairThere large a i
+    -- in these bytes the cursor shows it
+    shows : (file : LargeFileFlag) → file ≡ fileIf large → nextRequest part file 0 ≡ Pair (numberAt a (i * size) width) (numberAt a (i * size + width) width) (record { at = 0 + pairSize (fileIf large) })
     unfolding nextRequest
     shows file e =
-        let l : i * pairSize (fileIf large) + pairSize (fileIf large) ≤ length a = whole-pair (length a) (pairSize (fileIf large)) i below in
-        rw (e, es, le-leb _ _ l)
+        let k : i * size + size - i * size ≡ size = omega arith in
+        let l : 0 + pairSize (fileIf large) ≤ length part = omega (arith, es, whole-pair (length a) size i h, length-take (i * size + size - i * size) (drop (i * size) a), length-drop (i * size) a) in
+        let p : numberAt part 0 width ≡ numberAt a (i * size) width = number-part a (i * size) (i * size + size - i * size) 0 width (omega (arith, es)) ∙ ap (λ (m : ℕ). numberAt a m width) (add-zero (i * size)) in
+        let q : numberAt part (0 + width) width ≡ numberAt a (i * size + width) width = number-part a (i * size) (i * size + size - i * size) (0 + width) width (omega (arith, es)) ∙ ap (λ (m : ℕ). numberAt a (i * size + m) width) (zero-add width) in
+        rw (e, le-leb _ _ l, p, q)
 
-    pub found-pair : (file : LargeFileFlag) (x y : ℕ) (next : RequestCursor) → file ≡ fileIf large → Pair x y next ≡ nextRequest a file (i * size)
-        → (true ≡ isPair large a i) × (x ∷ y ∷ [] ≡ pairAt large a i)
+    pub found-pair : (file : LargeFileFlag) (x y : ℕ) (next : RequestCursor) → file ≡ fileIf large → Pair x y next ≡ nextRequest part file 0 → (true ≡ isPair large a i) × (x ∷ y ∷ [] ≡ pairAt large a i)
     found-pair file x y next e q =
         let n = pairs-count (fileIf large) a in
         let b = below in
         let l : i < length (pairsIn large a) = omega arith in
-        let s : Pair x y next ≡ pairThere large a i = q ∙ shows file e in
-        let p : x ≡ numberAt a (i * pairSize (fileIf large)) (offsetWidth (fileIf large)) = cc in
-        let p′ : y ≡ numberAt a (i * pairSize (fileIf large) + offsetWidth (fileIf large)) (offsetWidth (fileIf large)) = cc in
+        let s : Pair x y next ≡ Pair (numberAt a (i * size) width) (numberAt a (i * size + width) width) (record { at = 0 + pairSize (fileIf large) }) = q ∙ shows file e in
+        let p : x ≡ numberAt a (i * size) width = cc in
+        let p′ : y ≡ numberAt a (i * size + width) width = cc in
         (sym (lt-ltb _ _ l), ap₂ (λ (u v : ℕ). u ∷ v ∷ []) p p′ ∙ ap (λ (r : ℕ × ℕ). r .0 ∷ r .1 ∷ []) (sym at-pair))
 
     -- and so not the end
-    pub not-end : (file : LargeFileFlag) → file ≡ fileIf large → End ≡ nextRequest a file (i * size) → ⊥
+    pub not-end : (file : LargeFileFlag) → file ≡ fileIf large → End ≡ nextRequest part file 0 → ⊥
     not-end file e q =
-        let s : End ≡ pairThere large a i = q ∙ shows file e in
+        let s : End ≡ Pair (numberAt a (i * size) width) (numberAt a (i * size + width) width) (record { at = 0 + pairSize (fileIf large) }) = q ∙ shows file e in
         let z : _≡_ {A = ℕ} 0 1 = cc in
         omega arith
 

@@ -66,8 +66,10 @@ fn pair_at(area: &[u8], large: bool, index: usize) -> Found
     if area.len() / size <= index {
         return no_pair();
     }
-    let cursor = RequestCursor { at: index * size };
-    let found = cursor.next(area, LargeFileFlag::from_bit(large));
+    let from = index * size;
+    let to = from + size;
+    let cursor = RequestCursor { at: 0 };
+    let found = cursor.next(&area[from..to], LargeFileFlag::from_bit(large));
     match found {
         NextRequest::Pair {
             start,

@@ -1,5 +1,6 @@
 -- Laws of the definitions. The proof of a function stands in the folder of its name.
 pub mod Codes
+pub mod Parts
 pub mod Reading
 pub mod Walking
 mod Held

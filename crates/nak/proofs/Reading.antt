@@ -8,10 +8,9 @@ use native.Mathlib.Omega.{arith}
 use lib.Dec.{eqb}
 use lib.ListN.{length, getD, take}
 use borrow.Author.Tests.{lt-ltb, le-ltb}
-use Rattle.fields.specs.BigEndian.{numberAt, beAt}
+use Rattle.fields.specs.BigEndian.{numberAt}
 use Rattle.fields.specs.Answer.{Answer, accepted, told, andThen}
 use Rattle.fields.specs.Staged.{run}
-use Rattle.fields.proofs.BigEndian.{at-number}
 use Rattle.fields.proofs.Judging.{told-on}
 use Rattle.fields.proofs.Staged.{run-bind}
 use Rattle.header.specs.declared.PduHeader.{PduHeader}
@@ -30,15 +29,11 @@ pub area-is : (h : PduHeader) (a w : ℕ) → a ≡ headerLength h → w ≡ off
 unfolding areaStart
 area-is h a w p q = rw (p, q)
 
-pub nak-is : (h : PduHeader) (p : List ℕ) (a w e x y : ℕ) → a ≡ headerLength h → w ≡ offsetWidth (h .file) → w ≤ 8 → e ≡ dataEnd h → areaStart h ≤ dataEnd h → dataEnd h ≤ length p
-    → x ≡ beAt p (a + 1) w → y ≡ beAt p (a + 1 + w) w
+pub nak-is : (h : PduHeader) (p : List ℕ) (a w e x y : ℕ) → a ≡ headerLength h → w ≡ offsetWidth (h .file) → e ≡ dataEnd h
+    → x ≡ numberAt p (a + 1) (offsetWidth (h .file)) → y ≡ numberAt p (a + 1 + w) (offsetWidth (h .file))
     → record { header = h; start = x; end = y; area = a + 1 + 2 * w; stop = e; count = (e - (a + 1 + 2 * w)) / (2 * w) } ≡ nakIn h p
 unfolding nakIn areaStart
-nak-is h p a w e x y pa pw small pe room long px py =
-    let l : a + 1 + 2 * w ≤ length p = omega (arith, area-is h a w pa pw) in
-    let px′ : x ≡ numberAt p (a + 1) w = px ∙ at-number p (a + 1) w small (omega arith) in
-    let py′ : y ≡ numberAt p (a + 1 + w) w = py ∙ at-number p (a + 1 + w) w small (omega arith) in
-    rw (px′, py′, pe, pa, pw)
+nak-is h p a w e x y pa pw pe px py = rw (px, py, pe, pa, pw)
 
 -- ---- the last test
 

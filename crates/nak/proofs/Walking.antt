@@ -10,8 +10,7 @@ use lib.Dec.{lit<, leb}
 use lib.ListN.{length, take, drop}
 use borrow.Author.Tests.{le-leb, lt-leb, leb-true, leb-false, eq-eqb, ne-eqb}
 use Rattle.fields.specs.Choice.{if_then_else_}
-use Rattle.fields.specs.BigEndian.{numberAt, beAt}
-use Rattle.fields.proofs.BigEndian.{at-number}
+use Rattle.fields.specs.BigEndian.{numberAt}
 use Rattle.header.specs.declared.flags.LargeFileFlag.{LargeFileFlag}
 use Rattle.header.specs.declared.flags.LargeFileFlag.the-variants.{Normal, Large}
 use Rattle.nak.specs.declared.Nak.{Nak}
@@ -48,14 +47,12 @@ module _ (n : Nak) (s : List ℕ) where
 
 -- ---- one step
 
-pub next-pair : (a : List ℕ) (file : LargeFileFlag) (at w x y : ℕ) → w ≡ offsetWidth file → w ≤ 8 → at + 2 * w ≤ length a → x ≡ beAt a at w → y ≡ beAt a (at + w) w
+pub next-pair : (a : List ℕ) (file : LargeFileFlag) (at w x y : ℕ) → w ≡ offsetWidth file → at + 2 * w ≤ length a → x ≡ numberAt a at (offsetWidth file) → y ≡ numberAt a (at + w) (offsetWidth file)
     → Pair x y (record { at = at + 2 * w }) ≡ nextRequest a file at
 unfolding nextRequest
-next-pair a file at w x y e small l p q =
+next-pair a file at w x y e l p q =
     let l′ : at + 2 * offsetWidth file ≤ length a = omega (arith, e) in
-    let p′ : x ≡ numberAt a at w = p ∙ at-number a at w small (omega arith) in
-    let q′ : y ≡ numberAt a (at + w) w = q ∙ at-number a (at + w) w small (omega arith) in
-    rw (p′, q′, e, le-leb _ _ l′)
+    rw (p, q, e, le-leb _ _ l′)
 
 pub next-end : (a : List ℕ) (file : LargeFileFlag) (at w : ℕ) → w ≡ offsetWidth file → length a < at + 2 * w → End ≡ nextRequest a file at
 unfolding nextRequest

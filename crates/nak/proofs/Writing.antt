@@ -3,7 +3,7 @@
 use Prim.Native.Nat.{ℕ, zero, suc, _+_, _-_, _*_, _/_, _%_, _^_, _≤_, _<_}
 use mathlib.Core.Path.{_≡_, refl, sym, ap, ap₂, _∙_}
 use mathlib.Core.Bool.{Bool, true, false, not, _&&_}
-use mathlib.Core.List.{List, [], _∷_, _++_, append-assoc}
+use mathlib.Core.List.{List, [], _∷_, _++_, append-assoc, append-nil}
 use native.Mathlib.Nat.{zero-add, add-zero, div-add-mod', mul-le-mul-left}
 use native.Mathlib.Numerals.{add-one}
 use native.Mathlib.Omega.{arith}
@@ -16,7 +16,7 @@ use Rattle.fields.specs.BigEndian.{beBytes, bePut}
 use Rattle.fields.specs.Answer.{Answer, accepted, told, firstOf, leaves, Test}
 use Rattle.fields.proofs.Width.{fits-lt}
 use Rattle.fields.proofs.BigEndian.{be-length, put-sets, sets-append, then-sets}
-use Rattle.fields.proofs.Judging.{Passed, passed, passed-first, passed-last, passed-on, refused-on, told-leaves}
+use Rattle.fields.proofs.Judging.{Passed, passed, all-passed, passed-first, passed-last, passed-on, refused-on, told-leaves}
 use Rattle.header.specs.declared.PduHeader.{PduHeader}
 use Rattle.header.specs.declared.flags.Direction.the-variants.{TowardsSender}
 use Rattle.header.specs.declared.flags.CrcFlag.{CrcFlag}
@@ -69,32 +69,62 @@ filled-is file n d h a b c p q r s = s ∙ ap₂ withLength p (r ∙ ap (withFil
 
 -- ---- the judgement
 
-module _ (file : LargeFileFlag) (h : PduHeader) (start end count : ℕ) where
-  pub refused-nak : (ns : List ℕ) → told ns ≡ building h → told ns ≡ judgingNak file h start end count
-  unfolding judgingNak nakTests
+-- whatever is accepted where no test holds
+module _ {A : Type 0} (x : A) (file : LargeFileFlag) (h : PduHeader) (start end count : ℕ) where
+  abbrev judged-as : Answer A
+  judged-as = firstOf (nakTests file h start end count) x
+
+  pub refused-nak : (ns : List ℕ) → told ns ≡ building h → told ns ≡ judged-as
+  unfolding nakTests
   refused-nak ns e = refused-first h _ _ ns e
 
   module _ (good : Passed (recordTests h)) where
-    rest : judgingNak file h start end count ≡ firstOf (oddCount count ∷ scopeTooLarge file start end ∷ tooMany file (count / 2) ∷ []) (filled file (count / 2) h)
-    unfolding judgingNak nakTests
+    rest : judged-as ≡ firstOf (oddCount count ∷ scopeTooLarge file start end ∷ tooMany file (count / 2) ∷ []) x
+    unfolding nakTests
     rest = passed-on (recordTests h) _ _ good
 
-    pub odd : (count % 2 ≡ 0 → ⊥) → told (12 ∷ count ∷ []) ≡ judgingNak file h start end count
+    pub odd : (count % 2 ≡ 0 → ⊥) → told (12 ∷ count ∷ []) ≡ judged-as
     unfolding told
     odd n = rw (rest, ne-eqb _ _ n)
 
     module _ (even : count % 2 ≡ 0) where
-      pub bad-scope : scopeFits file start end ≡ false → told (9 ∷ start ∷ end ∷ []) ≡ judgingNak file h start end count
+      pub bad-scope : scopeFits file start end ≡ false → told (9 ∷ start ∷ end ∷ []) ≡ judged-as
       unfolding told
       bad-scope s = rw (rest, eq-eqb _ _ even, s)
 
       module _ (scope : scopeFits file start end ≡ true) (most : ℕ) (pm : most ≡ mostPairs file) where
-        pub too-many : most < count / 2 → told (10 ∷ count / 2 ∷ most ∷ []) ≡ judgingNak file h start end count
+        pub too-many : most < count / 2 → told (10 ∷ count / 2 ∷ most ∷ []) ≡ judged-as
         unfolding told
         too-many l = rw (rest, eq-eqb _ _ even, scope, ← pm, lt-ltb _ _ l)
 
-        pub judged-nak : count / 2 ≤ most → accepted (filled file (count / 2) h) ≡ judgingNak file h start end count
-        judged-nak l = rw (rest, eq-eqb _ _ even, scope, ← pm, le-ltb _ _ l)
+        pub none-holds : count / 2 ≤ most → accepted x ≡ judged-as
+        none-holds l = rw (rest, eq-eqb _ _ even, scope, ← pm, le-ltb _ _ l)
+
+-- from the count of the pairs to the header that is handed back
+module _ (file : LargeFileFlag) (h : PduHeader) (start end count : ℕ) where
+  pub judged-nak : Passed (recordTests h) → count % 2 ≡ 0 → scopeFits file start end ≡ true → (most : ℕ) → most ≡ mostPairs file → count / 2 ≤ most
+      → accepted (filled file (count / 2) h) ≡ judgingNak file h start end count
+  unfolding judgingNak
+  judged-nak good even scope most pm l = none-holds (filled file (count / 2) h) file h start end count good even scope most pm l
+
+  pub refused-count : (ns : List ℕ) → told ns ≡ firstOf (nakTests file h start end count) (count / 2) → told ns ≡ judgingNak file h start end count
+  unfolding judgingNak
+  refused-count ns e = rw (append-nil (nakTests file h start end count)) at (refused-on ns (nakTests file h start end count) [] (count / 2) (filled file (count / 2) h) e)
+
+  module _ (n : ℕ) (e : accepted n ≡ firstOf (nakTests file h start end count) (count / 2)) where
+    pub count-fits : n ≤ mostPairs file
+    unfolding nakTests
+    count-fits =
+        let p = passed (nakTests file h start end count) n (count / 2) e in
+        let u = passed-last (recordTests h) (oddCount count ∷ scopeTooLarge file start end ∷ tooMany file (count / 2) ∷ []) (p .0) in
+        rw (p .1) (ltb-false _ _ (u .1 .1 .0))
+
+    pub counted-nak : accepted (filled file n h) ≡ judgingNak file h start end count
+    unfolding judgingNak
+    counted-nak =
+        let p = passed (nakTests file h start end count) n (count / 2) e in
+        ap (λ (k : ℕ). accepted (filled file k h)) (p .1)
+        ∙ sym (all-passed (nakTests file h start end count) (filled file (count / 2) h) (p .0))
 
 -- ---- room
 

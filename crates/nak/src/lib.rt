@@ -1,8 +1,11 @@
 // Layer 3 of the codec: the NAK PDU (the Rust's `cfdp/pdu/nak.rs`): read, its requests walked, written, reserved and finished, counted, compared.
 ghost use mathlib.Core.Path.{_≡_};
-ghost use Prim.Native.Nat.{_≤_};
+ghost use Prim.Native.Nat.{_+_, _≤_};
+ghost use lib.ListN.{length};
+ghost use Rattle.fields.specs.BigEndian.{numberAt};
 ghost use Rattle.nak.specs.Nak.{offsetWidth};
 use fields::Refusal;
+use fields::be;
 use header::LargeFileFlag;
 use header::PduHeader;
 
@@ -42,5 +45,17 @@ fn offset_width(file: LargeFileFlag) -> usize
     match file {
         LargeFileFlag::Normal => 4,
         LargeFileFlag::Large => 8,
+    }
+}
+
+// The offset at a place that has all its bytes. Each width is a literal, and each part has so many bytes: no test and no loop is left of
+// a read.
+fn offset_at(s: &[u8], at: usize, file: LargeFileFlag) -> u64
+    requires { ⌜ at + offsetWidth file ≤ length (now s) ⌝ }
+    ensures { λ r. ⌜ r ≡ numberAt (now (s .entry)) at (offsetWidth file) ⌝ }
+{
+    match file {
+        LargeFileFlag::Normal => be::read_be(&s[at..at + 4], 0, 4),
+        LargeFileFlag::Large => be::read_be(&s[at..at + 8], 0, 8),
     }
 }

@@ -9,9 +9,9 @@ ghost use Rattle.nak.specs.Reading.{nakAnswer, readingScope, readingDire
 use crate::Nak;
 use crate::NakResult;
 use crate::directive::Directive;
+use crate::offset_at;
 use crate::offset_width;
 use fields::Refusal;
-use fields::be;
 use header::HeaderResult;
 use header::LengthResult;
 use header::PduHeader;
@@ -35,8 +35,8 @@ fn nak_in(header: PduHeader, pdu: &[u8], end: usize) -> Nak
     let scope = header.header_len() + 1;
     let second = scope + width;
     let area = scope + 2 * width;
-    let start_of_scope = be::read_be(pdu, scope, width);
-    let end_of_scope = be::read_be(pdu, second, width);
+    let start_of_scope = offset_at(pdu, scope, file);
+    let end_of_scope = offset_at(pdu, second, file);
     let count = (end - area) / (2 * width);
     Nak {
         header,

@@ -2,8 +2,8 @@
 ghost use mathlib.Core.Path.{_≡_};
 ghost use Rattle.nak.specs.Requests.{areaOf, nextRequest, requestsOf};
 use crate::Nak;
+use crate::offset_at;
 use crate::offset_width;
-use fields::be;
 use header::LargeFileFlag;
 
 // A position in a request area.
@@ -66,8 +66,8 @@ impl RequestCursor {
             return NextRequest::End;
         }
         NextRequest::Pair {
-            start: be::read_be(area, at, width),
-            end: be::read_be(area, at + width, width),
+            start: offset_at(area, at, file),
+            end: offset_at(area, at + width, file),
             next: RequestCursor { at: at + 2 * width },
         }
     }

@@ -2,14 +2,17 @@
 ghost use mathlib.Core.Path.{_≡_};
 ghost use mathlib.Core.Bool.{true};
 ghost use mathlib.Core.List.{[]};
-ghost use Prim.Native.Nat.{_+_, _*_, _≤_};
+ghost use Prim.Native.Nat.{_+_, _*_, _/_, _≤_};
 ghost use lib.ListN.{length};
 ghost use lib.Seq.{sets};
 ghost use Rattle.fields.proofs.Judging.{Passed};
+ghost use Rattle.fields.specs.Answer.{firstOf};
 ghost use Rattle.header.specs.Answers.{headerAnswer};
 ghost use Rattle.header.specs.Judging.{recordTests};
 ghost use Rattle.nak.specs.Nak.{offsetWidth, areaStart};
-ghost use Rattle.nak.specs.Writing.{writeAnswer, numbersBytes, startBytes, dataLength, mostPairs, filled, scopeFits, judgingNak, intoRoom, writingNak, nakMemory};
+ghost use Rattle.nak.specs.Counting.{countAnswer};
+ghost use Rattle.nak.specs.Writing.{writeAnswer, numbersBytes, startBytes, dataLength, mostPairs, filled, scopeFits, nakTests, judgingNak, intoRoom, writingNak, nakMemory};
+use crate::count::CountResult;
 use crate::offset_width;
 use fields::Refusal;
 use fields::be;
@@ -79,7 +82,38 @@ pub(crate) fn fill(header: PduHeader, file: LargeFileFlag, pairs: usize) -> PduH
         .with_datafield_len(length)
 }
 
-// The writer's judgement but for the room: the header that is handed back.
+// The writer's judgement but for the room, and how many pairs the numbers are. No header is handed back: it is long, and this function is
+// too long to become a part of its callers.
+fn judge_count(
+    header: PduHeader,
+    file: LargeFileFlag,
+    start: u64,
+    end: u64,
+    count: usize,
+) -> CountResult
+    ensures { λ r. ⌜ countAnswer r ≡ firstOf (nakTests file header start end count) (count / 2) ⌝ }
+{
+    let judged = header.judged();
+    match judged {
+        HeaderResult::Refused(refusal) => CountResult::Refused(refusal),
+        HeaderResult::Header(_) => {
+            if count % 2 != 0 {
+                return CountResult::Refused(Refusal::OddCount(count));
+            }
+            if !scope_fits(file, start, end) {
+                return CountResult::Refused(Refusal::InvalidStartOrEndOfScope { start, end });
+            }
+            let pairs = count / 2;
+            let most = most_pairs(file);
+            if most < pairs {
+                return CountResult::Refused(Refusal::TooManySegmentRequests { found: pairs, most });
+            }
+            CountResult::Count(pairs)
+        }
+    }
+}
+
+// The same judgement: the header that is handed back.
 pub(crate) fn judge_nak(
     header: PduHeader,
     file: LargeFileFlag,
@@ -89,26 +123,10 @@ pub(crate) fn judge_nak(
 ) -> HeaderResult
     ensures { λ r. ⌜ headerAnswer r ≡ judgingNak file header start end count ⌝ }
 {
-    let judged = header.judged();
+    let judged = judge_count(header, file, start, end, count);
     match judged {
-        HeaderResult::Refused(refusal) => HeaderResult::Refused(refusal),
-        HeaderResult::Header(_) => {
-            if count % 2 != 0 {
-                return HeaderResult::Refused(Refusal::OddCount(count));
-            }
-            if !scope_fits(file, start, end) {
-                return HeaderResult::Refused(Refusal::InvalidStartOrEndOfScope { start, end });
-            }
-            let pairs = count / 2;
-            let most = most_pairs(file);
-            if most < pairs {
-                return HeaderResult::Refused(Refusal::TooManySegmentRequests {
-                    found: pairs,
-                    most,
-                });
-            }
-            HeaderResult::Header(fill(header, file, pairs))
-        }
+        CountResult::Refused(refusal) => HeaderResult::Refused(refusal),
+        CountResult::Count(pairs) => HeaderResult::Header(fill(header, file, pairs)),
     }
 }
 
@@ -167,7 +185,9 @@ fn put_normal(buf: &mut [u8], at: usize, numbers: &[u32])
 {
     let mut i = 0;
     while i < numbers.len() {
-        be::write_be(buf, at + 4 * i, 4, numbers[i] as u64);
+        let from = at + 4 * i;
+        let to = from + 4;
+        be::write_be(&mut buf[from..to], 0, 4, numbers[i] as u64);
         i += 1;
     }
 }
@@ -179,7 +199,9 @@ fn put_large(buf: &mut [u8], at: usize, numbers: &[u64])
 {
     let mut i = 0;
     while i < numbers.len() {
-        be::write_be(buf, at + 8 * i, 8, numbers[i]);
+        let from = at + 8 * i;
+        let to = from + 8;
+        be::write_be(&mut buf[from..to], 0, 8, numbers[i]);
         i += 1;
     }
 }

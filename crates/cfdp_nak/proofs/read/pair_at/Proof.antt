@@ -1,4 +1,4 @@
--- `cfdp_nak::read::pair_at` meets its contract: an index below the count of whole pairs has its pair, and the cursor shows it.
+-- `cfdp_nak::read::pair_at` meets its contract: an index below the count of whole pairs has its pair, and the cursor shows it in its bytes.
 -- Assumes nothing.
 use mathlib.Core.Path.{sym, ap, _∙_}
 use native.Mathlib.Omega.{arith}
@@ -20,9 +20,22 @@ returns : tie.Need-returns
 returns c =
     no-pair (c .before .before .before .before .args .large) (c .before .before .before .before .args .area .now) _ _ _ (c .before .before .pair-size .ensures .0) (c .before .if1 .taken) (c .no-pair .ensures)
 
-mul-t9 : tie.Need-mul-t9
-mul-t9 c =
+mul-from : tie.Need-mul-from
+mul-from c =
     record { fits = omega (arith, whole-pair _ _ _ (c .if1 .left)) }
+
+add-to : tie.Need-add-to
+add-to c =
+    record { fits = omega (arith, whole-pair _ _ _ (c .if1 .left)) }
+
+sub-next : tie.Need-sub-next
+sub-next c = search needs
+
+part-next-start : tie.Need-part-next-start
+part-next-start c = search needs
+
+part-next-end : tie.Need-part-next-end
+part-next-end c = whole-pair _ _ _ (c .if1 .left)
 
 from-bit-requires : tie.Need-from-bit-requires
 from-bit-requires c κs = search needs
@@ -41,11 +54,11 @@ no-pair-requires-2 c κs = search needs
 
 returns-2 : tie.Need-returns-2
 returns-2 c =
-    found-pair (c .before .before .before .before .before .before .before .before .args .large) (c .before .before .before .before .before .before .before .before .args .area .now) _ _ (c .before .before .before .before .before .before .pair-size .ensures .0) (c .before .before .before .before .before .if1 .left) _ _ _ _ (c .before .before .before .before .from-bit .ensures) (sym (c .before .found .given .1) ∙ c .before .before .before .next .ensures)
+    found-pair (c .before .before .before .before .before .before .before .before .before .args .large) (c .before .before .before .before .before .before .before .before .before .args .area .now) _ _ (c .before .before .before .before .before .before .before .pair-size .ensures .0) (c .before .before .before .before .before .before .if1 .left) _ _ _ _ (c .before .before .before .before .from-bit .ensures) (sym (c .before .found .given .1) ∙ c .before .before .before .next .ensures)
 
 returns-3 : tie.Need-returns-3
 returns-3 c =
-    absurd (not-end (c .before .before .before .before .before .before .before .before .args .large) (c .before .before .before .before .before .before .before .before .args .area .now) _ _ (c .before .before .before .before .before .before .pair-size .ensures .0) (c .before .before .before .before .before .if1 .left) _ (c .before .before .before .before .from-bit .ensures) (sym (c .before .enum-told .given .1) ∙ c .before .before .before .next .ensures))
+    absurd (not-end (c .before .before .before .before .before .before .before .before .before .args .large) (c .before .before .before .before .before .before .before .before .before .args .area .now) _ _ (c .before .before .before .before .before .before .before .pair-size .ensures .0) (c .before .before .before .before .before .before .if1 .left) _ (c .before .before .before .before .from-bit .ensures) (sym (c .before .enum-told .given .1) ∙ c .before .before .before .next .ensures))
 
 pub pair-at-spec : {M : Type 1} → statement M
 pair-at-spec =
@@ -55,7 +68,11 @@ pair-at-spec =
     div-if1
     no-pair-requires
     returns
-    mul-t9
+    mul-from
+    add-to
+    sub-next
+    part-next-start
+    part-next-end
     from-bit-requires
     next-requires
     enum-known-found

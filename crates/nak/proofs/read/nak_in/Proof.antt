@@ -24,11 +24,11 @@ mul-area c = search needs
 add-area : tie.Need-add-area
 add-area c = search needs
 
-read-be-requires : tie.Need-read-be-requires
-read-be-requires c κs = search needs
+offset-at-requires : tie.Need-offset-at-requires
+offset-at-requires c κs = omega (arith, area-is _ _ _ (c .header-len .ensures .0) (c .before .offset-width .ensures .0), c .before .offset-width .ensures .0, c .before .before .before .pre .1, c .before .before .before .pre .2)
 
-read-be-requires-2 : tie.Need-read-be-requires-2
-read-be-requires-2 c κs = search needs
+offset-at-requires-2 : tie.Need-offset-at-requires-2
+offset-at-requires-2 c κs = omega (arith, area-is _ _ _ (c .before .header-len .ensures .0) (c .before .before .offset-width .ensures .0), c .before .before .offset-width .ensures .0, c .before .before .before .before .pre .1, c .before .before .before .before .pre .2)
 
 sub-count : tie.Need-sub-count
 sub-count c = omega (arith, area-is _ _ _ (c .before .before .header-len .ensures .0) (c .before .before .before .offset-width .ensures .0))
@@ -41,7 +41,7 @@ div-count c = search needs
 
 returns : tie.Need-returns
 returns c =
-    nak-is _ _ _ _ _ _ _ (c .before .before .header-len .ensures .0) (c .before .before .before .offset-width .ensures .0) (c .before .before .before .offset-width .ensures .2) (c .before .before .before .before .before .pre .0) (c .before .before .before .before .before .pre .1) (c .before .before .before .before .before .pre .2) (c .before .read-be .ensures .0) (c .read-be2 .ensures .0)
+    nak-is _ _ _ _ _ _ _ (c .before .before .header-len .ensures .0) (c .before .before .before .offset-width .ensures .0) (c .before .before .before .before .before .pre .0) (c .before .offset-at .ensures) (c .offset-at2 .ensures)
 
 pub nak-in-spec : {M : Type 1} → statement M
 nak-in-spec =
@@ -53,8 +53,8 @@ nak-in-spec =
     add-second
     mul-area
     add-area
-    read-be-requires
-    read-be-requires-2
+    offset-at-requires
+    offset-at-requires-2
     sub-count
     mul-count
     div-count

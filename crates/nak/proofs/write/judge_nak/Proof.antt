@@ -1,64 +1,41 @@
--- `nak::write::judge_nak` meets its contract: each exit's answer is the judgement's.
+-- `nak::write::judge_nak` meets its contract: the count's refusal, or the header of so many pairs.
 -- Assumes nothing.
 use mathlib.Core.Path.{sym, ap, _∙_}
-use borrow.Author.Tests.{not-true, not-false}
 use Rattle.fields.specs.Answer.{accepted}
-use Rattle.header.specs.Answers.{headerAnswer}
-use Rattle.header.proofs.Judging.{passed-tests}
-use Rattle.nak.proofs.Writing.{refused-nak, odd, bad-scope, too-many, judged-nak}
+use Rattle.nak.specs.Counting.{countAnswer}
+use Rattle.nak.proofs.Writing.{refused-count, count-fits, counted-nak}
 use borrow.Author.Needs.{needs}
 use Rattle.nak.proofs.write.judge_nak.Statement.{statement}
 use Rattle.nak.proofs.write.judge_nak.Tie as tie
 
-judged-requires : tie.Need-judged-requires
-judged-requires c κs = search needs
+judge-count-requires : tie.Need-judge-count-requires
+judge-count-requires c κs = search needs
 
 enum-known-judged : tie.Need-enum-known-judged
 enum-known-judged c = search needs
 
-enum-told : tie.Need-enum-told
-enum-told c = search needs
+enum-known-judged-2 : tie.Need-enum-known-judged-2
+enum-known-judged-2 c = search needs
+
+fill-requires : tie.Need-fill-requires
+fill-requires c κs =
+    count-fits _ _ _ _ _ _ (ap countAnswer (sym (c .before .judged2 .given .1)) ∙ c .before .before .before .judge-count .ensures)
 
 returns : tie.Need-returns
 returns c =
-    odd _ _ _ _ _ (passed-tests _ _ (ap headerAnswer (sym (c .before .enum-told .given .1)) ∙ c .before .before .before .judged .ensures)) (c .if1 .taken)
-
-scope-fits-requires : tie.Need-scope-fits-requires
-scope-fits-requires c κs = search needs
+    refused-count _ _ _ _ _ _ (ap countAnswer (sym (c .before .judged .given .1)) ∙ c .before .before .before .judge-count .ensures)
 
 returns-2 : tie.Need-returns-2
 returns-2 c =
-    bad-scope _ _ _ _ _ (passed-tests _ _ (ap headerAnswer (sym (c .before .before .before .enum-told .given .1)) ∙ c .before .before .before .before .before .judged .ensures)) (c .before .before .if1 .left) (sym (c .before .scope-fits .ensures) ∙ not-true _ (c .if2 .taken))
-
-most-pairs-requires : tie.Need-most-pairs-requires
-most-pairs-requires c κs = search needs
-
-returns-3 : tie.Need-returns-3
-returns-3 c =
-    too-many _ _ _ _ _ (passed-tests _ _ (ap headerAnswer (sym (c .before .before .before .before .before .enum-told .given .1)) ∙ c .before .before .before .before .before .before .before .judged .ensures)) (c .before .before .before .before .if1 .left) (sym (c .before .before .before .scope-fits .ensures) ∙ not-false _ (c .before .before .if2 .left)) _ (c .before .most-pairs .ensures) (c .if3 .taken)
-
-fill-requires : tie.Need-fill-requires
-fill-requires c κs = search needs
-
-returns-4 : tie.Need-returns-4
-returns-4 c = refused-nak _ _ _ _ _ _ (ap headerAnswer (sym (c .before .judged2 .given .1)) ∙ c .before .before .before .judged .ensures)
-
-returns-5 : tie.Need-returns-5
-returns-5 c =
-    ap accepted (c .fill .ensures) ∙ judged-nak _ _ _ _ _ (passed-tests _ _ (ap headerAnswer (sym (c .before .before .before .before .before .before .enum-told .given .1)) ∙ c .before .before .before .before .before .before .before .before .judged .ensures)) (c .before .before .before .before .before .if1 .left) (sym (c .before .before .before .before .scope-fits .ensures) ∙ not-false _ (c .before .before .before .if2 .left)) _ (c .before .before .most-pairs .ensures) (c .before .if3 .left)
+    ap accepted (c .fill .ensures) ∙ counted-nak _ _ _ _ _ _ (ap countAnswer (sym (c .before .before .judged2 .given .1)) ∙ c .before .before .before .before .judge-count .ensures)
 
 pub judge-nak-spec : {M : Type 1} → statement M
 judge-nak-spec =
     tie.close
     (tie.spec
-    judged-requires
+    judge-count-requires
     enum-known-judged
-    enum-told
-    returns
-    scope-fits-requires
-    returns-2
-    most-pairs-requires
-    returns-3
+    enum-known-judged-2
     fill-requires
-    returns-4
-    returns-5)
+    returns
+    returns-2)

@@ -8,6 +8,7 @@ use lib.ListN.{length, drop}
 use lib.Seq.{sets}
 use Rattle.fields.proofs.BigEndian.{put-length}
 use Rattle.nak.specs.Writing.{numbersBytes}
+use Rattle.nak.proofs.Parts.{part-put}
 use Rattle.nak.proofs.Writing.{number-turn, numbers-done}
 use borrow.Author.Needs.{needs}
 use Rattle.nak.proofs.write.put_large.Statement.{statement}
@@ -23,14 +24,26 @@ abbrev μ-loop : tie.MeasureT-loop
 loop-holds : tie.Need-loop-holds Inv-loop μ-loop
 loop-holds c = (search needs, refl, rw add-zero)
 
+mul-from : tie.Need-mul-from Inv-loop μ-loop
+mul-from c = search needs
+
+add-from : tie.Need-add-from Inv-loop μ-loop
+add-from c = search needs
+
+add-to : tie.Need-add-to Inv-loop μ-loop
+add-to c = search needs
+
+sub-write-be : tie.Need-sub-write-be Inv-loop μ-loop
+sub-write-be c = search needs
+
+part-write-be-start : tie.Need-part-write-be-start Inv-loop μ-loop
+part-write-be-start c = search needs
+
+part-write-be-end : tie.Need-part-write-be-end Inv-loop μ-loop
+part-write-be-end c = search needs
+
 mul-write-be : tie.Need-mul-write-be Inv-loop μ-loop
 mul-write-be c = search needs
-
-add-write-be : tie.Need-add-write-be Inv-loop μ-loop
-add-write-be c = search needs
-
-mul-write-be-2 : tie.Need-mul-write-be-2 Inv-loop μ-loop
-mul-write-be-2 c = search needs
 
 shared-slice-read-write-be : tie.Need-shared-slice-read-write-be Inv-loop μ-loop
 shared-slice-read-write-be c = search needs
@@ -48,10 +61,11 @@ loop-again : tie.Need-loop-again Inv-loop μ-loop
 loop-again c =
     let l = c .before .before .before .before .before .before .loop in
     let a = c .before .before .before .before .before .before .before .before .before .args in
-    let f = c .before .before .before .shared-slice-known2 .given (l .i) in (
+    let f = c .before .before .before .shared-slice-known2 .given (l .i) in
+    let p = part-put (l .buf) _ (a .at + 8 * l .i) 8 (a .at + 8 * l .i + 8) _ refl (omega arith) (omega arith) (omega (arith, f)) (c .before .before .write-be .ensures) in (
       omega arith,
-      ap length (c .before .before .write-be .ensures) ∙ put-length _ _ _ _ ∙ l .inv .1,
-      number-turn 8 (a .at) (l .i) _ (l .buf) _ (a .numbers .now) (omega arith) (omega arith) (omega arith) refl (omega (arith, f)) (c .before .before .write-be .ensures) ∙ l .inv .2,
+      ap length p ∙ put-length _ _ _ _ ∙ l .inv .1,
+      number-turn 8 (a .at) (l .i) _ (l .buf) _ (a .numbers .now) (omega arith) (omega arith) (omega arith) refl (omega (arith, f)) p ∙ l .inv .2,
     )
 
 same-length : tie.Need-same-length Inv-loop μ-loop
@@ -67,9 +81,13 @@ put-large-spec =
     Inv-loop
     μ-loop
     loop-holds
+    mul-from
+    add-from
+    add-to
+    sub-write-be
+    part-write-be-start
+    part-write-be-end
     mul-write-be
-    add-write-be
-    mul-write-be-2
     shared-slice-read-write-be
     write-be-requires
     add-i
