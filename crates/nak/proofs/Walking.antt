@@ -16,8 +16,8 @@ use Rattle.header.specs.declared.flags.LargeFileFlag.the-variants.{Normal, Larg
 use Rattle.nak.specs.declared.Nak.{Nak}
 use Rattle.nak.specs.declared.requests.NextRequest.{NextRequest}
 use Rattle.nak.specs.declared.requests.NextRequest.the-variants.{Pair, End}
-use Rattle.nak.specs.declared.requests.SegmentRequests.{SegmentRequests}
-use Rattle.nak.specs.declared.requests.SegmentRequests.the-variants.{From, Nothing}
+use Rattle.nak.specs.declared.requests.RequestsStart.{RequestsStart}
+use Rattle.nak.specs.declared.requests.RequestsStart.the-variants.{From, Nothing}
 use Rattle.nak.specs.Nak.{offsetWidth, pairSize}
 use Rattle.nak.specs.Requests.{areaOf, pairsFrom, pairsOf, nextRequest, requestsOf, walk}
 use Rattle.nak.specs.Demands.{WalkShowsPairs, EndForEver}

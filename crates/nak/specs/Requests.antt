@@ -11,8 +11,8 @@ use Rattle.nak.specs.declared.Nak.{Nak}
 use Rattle.nak.specs.declared.requests.RequestCursor.{RequestCursor}
 use Rattle.nak.specs.declared.requests.NextRequest.{NextRequest}
 use Rattle.nak.specs.declared.requests.NextRequest.the-variants.{Pair, End}
-use Rattle.nak.specs.declared.requests.SegmentRequests.{SegmentRequests}
-use Rattle.nak.specs.declared.requests.SegmentRequests.the-variants.{From, Nothing}
+use Rattle.nak.specs.declared.requests.RequestsStart.{RequestsStart}
+use Rattle.nak.specs.declared.requests.RequestsStart.the-variants.{From, Nothing}
 use Rattle.nak.specs.Nak.{offsetWidth, pairSize}
 
 -- the bytes from `area` up to `stop`; an area that does not lie in the bytes is empty
@@ -36,7 +36,7 @@ nextRequest area file at =
     else End
 
 -- 'An empty area has no iterator'
-unfoldable pub requestsOf : Nak → List ℕ → SegmentRequests
+unfoldable pub requestsOf : Nak → List ℕ → RequestsStart
 requestsOf n s = if eqb (length (areaOf n s)) 0 then Nothing else From (record { at = 0 })
 
 -- what walking from a position shows, in at most `rounds` steps

@@ -22,7 +22,7 @@ pub enum NextRequest {
 }
 
 // Where the requests of a NAK are walked from, if its area is not empty.
-pub enum SegmentRequests {
+pub enum RequestsStart {
     From(RequestCursor),
     Nothing,
 }
@@ -43,13 +43,13 @@ impl Nak {
         &buf[area..stop]
     }
 
-    pub fn get_segment_requests_iterator(self, buf: &[u8]) -> SegmentRequests
+    pub fn get_segment_requests_iterator(self, buf: &[u8]) -> RequestsStart
         ensures { λ r. ⌜ r ≡ requestsOf self (now (buf .entry)) ⌝ }
     {
         if self.request_area(buf).len() == 0 {
-            return SegmentRequests::Nothing;
+            return RequestsStart::Nothing;
         }
-        SegmentRequests::From(RequestCursor { at: 0 })
+        RequestsStart::From(RequestCursor { at: 0 })
     }
 }
 
