@@ -32,7 +32,7 @@ use Rattle.header.proofs.Writing.{header-length, with-length, header-stored}
 use Rattle.header.proofs.Verifying.{pdu-sum, added-sets, checksum-length}
 use Rattle.nak.specs.declared.write.NakWritten.{NakWritten}
 use Rattle.nak.specs.Nak.{offsetWidth, pairSize, areaStart}
-use Rattle.nak.specs.Writing.{numbersBytes, startBytes, nakOver, nakBytes, dataLength, mostPairs, filled, scopeFits, oddCount, scopeTooLarge, tooMany, noRoom, nakTests, judgingNak, intoRoom, writingNak, nakMemory}
+use Rattle.nak.specs.Writing.{numbersBytes, startBytes, nakOver, nakBytes, dataLength, mostPairs, filled, scopeFits, oddCount, scopeTooLarge, tooMany, noRoom, nakTests, judgingNak, intoRoom, writingNak, writingLength, nakMemory}
 
 -- ---- the scope
 
@@ -137,9 +137,30 @@ unfolding intoRoom
 has-room h room p e l = rw (← e, le-ltb _ _ l)
 
 module _ (file : LargeFileFlag) (h : PduHeader) (start end count room : ℕ) where
-  pub refused-write : (ns : List ℕ) → told ns ≡ judgingNak file h start end count → told ns ≡ writingNak file h start end count room
-  unfolding judgingNak writingNak intoRoom
-  refused-write ns e = refused-on ns (nakTests file h start end count) _ _ _ e
+  abbrev filled-h : PduHeader
+  filled-h = filled file (count / 2) h
+
+  abbrev all-tests : List Test
+  all-tests = nakTests file h start end count ++ (noRoom room filled-h ∷ [])
+
+  pub refused-length : (ns : List ℕ) → told ns ≡ firstOf (nakTests file h start end count) (count / 2) → told ns ≡ writingLength file h start end count room
+  unfolding writingLength
+  refused-length ns e = refused-on ns (nakTests file h start end count) _ _ _ e
+
+  module _ (n : ℕ) (e : accepted n ≡ firstOf (nakTests file h start end count) (count / 2)) (k : PduHeader) (pk : k ≡ filled file n h) (p : ℕ) (pp : p ≡ pduLength k) where
+    length-is-p : p ≡ pduLength filled-h
+    length-is-p = pp ∙ ap pduLength (pk ∙ ap (λ (m : ℕ). filled file m h) (passed (nakTests file h start end count) n (count / 2) e .1))
+
+    room-decides : firstOf all-tests (pduLength filled-h) ≡ firstOf (noRoom room filled-h ∷ []) (pduLength filled-h)
+    room-decides = passed-on (nakTests file h start end count) (noRoom room filled-h ∷ []) (pduLength filled-h) (passed (nakTests file h start end count) n (count / 2) e .0)
+
+    pub length-short : room < p → told (11 ∷ room ∷ p ∷ []) ≡ writingLength file h start end count room
+    unfolding told writingLength
+    length-short l = rw (room-decides, ← length-is-p, lt-ltb _ _ l)
+
+    pub length-fits : p ≤ room → accepted p ≡ writingLength file h start end count room
+    unfolding writingLength
+    length-fits l = rw (room-decides, ← length-is-p, le-ltb _ _ l)
 
   pub into-room : (w : PduHeader) → accepted w ≡ judgingNak file h start end count → intoRoom [] w room ≡ writingNak file h start end count room
   unfolding judgingNak writingNak intoRoom
@@ -147,6 +168,21 @@ module _ (file : LargeFileFlag) (h : PduHeader) (start end count room : ℕ) whe
       let p = passed (nakTests file h start end count) w (filled file (count / 2) h) e in
       ap (λ (x : PduHeader). firstOf (noRoom room x ∷ []) (record { header = x; length = pduLength x })) (p .1)
       ∙ sym (passed-on (nakTests file h start end count) (noRoom room (filled file (count / 2) h) ∷ []) _ (p .0))
+
+  -- from the length to the answer
+  pub refused-write : (ns : List ℕ) → told ns ≡ writingLength file h start end count room → told ns ≡ writingNak file h start end count room
+  unfolding writingLength writingNak intoRoom
+  refused-write ns e =
+      let w : NakWritten = record { header = filled-h; length = pduLength filled-h } in
+      rw (append-nil all-tests) at (refused-on ns all-tests [] (pduLength filled-h) w e)
+
+  pub length-written : (n : ℕ) (k : PduHeader) → accepted n ≡ writingLength file h start end count room → k ≡ filled file (count / 2) h → accepted (record { header = k; length = n }) ≡ writingNak file h start end count room
+  unfolding writingLength writingNak intoRoom
+  length-written n k e pk =
+      let p = passed all-tests n (pduLength filled-h) e in
+      let w : NakWritten = record { header = filled-h; length = pduLength filled-h } in
+      let made : PduHeader → ℕ → Answer NakWritten = λ x m. accepted (record { header = x; length = m }) in
+      ap₂ made pk (p .1) ∙ sym (rw (append-nil all-tests) at (passed-on all-tests [] w (p .0)))
 
 -- ---- what an accepted one has
 

@@ -7,11 +7,11 @@ ghost use lib.ListN.{length};
 ghost use lib.Seq.{sets};
 ghost use Rattle.fields.proofs.Judging.{Passed};
 ghost use Rattle.fields.specs.Answer.{firstOf};
-ghost use Rattle.header.specs.Answers.{headerAnswer};
+ghost use Rattle.header.specs.Answers.{headerAnswer, lengthAnswer};
 ghost use Rattle.header.specs.Judging.{recordTests};
 ghost use Rattle.nak.specs.Nak.{offsetWidth, areaStart};
 ghost use Rattle.nak.specs.Counting.{countAnswer};
-ghost use Rattle.nak.specs.Writing.{writeAnswer, numbersBytes, startBytes, dataLength, mostPairs, filled, scopeFits, nakTests, judgingNak, intoRoom, writingNak, nakMemory};
+ghost use Rattle.nak.specs.Writing.{writeAnswer, numbersBytes, startBytes, dataLength, mostPairs, filled, scopeFits, nakTests, judgingNak, intoRoom, writingNak, writingLength, nakMemory};
 use crate::count::CountResult;
 use crate::offset_width;
 use fields::Refusal;
@@ -20,6 +20,7 @@ use header::CrcFlag;
 use header::Direction;
 use header::HeaderResult;
 use header::LargeFileFlag;
+use header::LengthResult;
 use header::PduHeader;
 use header::verify;
 
@@ -144,6 +145,7 @@ pub(crate) fn with_room(header: PduHeader, room: usize) -> WriteResult
     WriteResult::Written(NakWritten { header, length })
 }
 
+// The writer's judgement: the bytes that will be written. As above, no header is handed back.
 fn writable(
     header: PduHeader,
     file: LargeFileFlag,
@@ -151,13 +153,22 @@ fn writable(
     end: u64,
     count: usize,
     room: usize,
-) -> WriteResult
-    ensures { λ r. ⌜ writeAnswer r ≡ writingNak file header start end count room ⌝ }
+) -> LengthResult
+    ensures { λ r. ⌜ lengthAnswer r ≡ writingLength file header start end count room ⌝ }
 {
-    let judged = judge_nak(header, file, start, end, count);
+    let judged = judge_count(header, file, start, end, count);
     match judged {
-        HeaderResult::Refused(refusal) => WriteResult::Refused(refusal),
-        HeaderResult::Header(header) => with_room(header, room),
+        CountResult::Refused(refusal) => LengthResult::Refused(refusal),
+        CountResult::Count(pairs) => {
+            let length = fill(header, file, pairs).pdu_len();
+            if room < length {
+                return LengthResult::Refused(Refusal::ToSliceTooSmall {
+                    found: room,
+                    expected: length,
+                });
+            }
+            LengthResult::Length(length)
+        }
     }
 }
 
@@ -219,13 +230,13 @@ pub fn write_no_segment_requests(
     let file = header.file;
     let answer = writable(header, file, start, end, 0, buf.len());
     match answer {
-        WriteResult::Refused(refusal) => WriteResult::Refused(refusal),
-        WriteResult::Written(written) => {
-            let header = written.header;
+        LengthResult::Refused(refusal) => WriteResult::Refused(refusal),
+        LengthResult::Length(length) => {
+            let header = fill(header, file, 0);
             let crc = header.crc;
             let at = put_start(buf, header, start, end);
             verify::add_pdu_crc(buf, at, crc);
-            WriteResult::Written(written)
+            WriteResult::Written(NakWritten { header, length })
         }
     }
 }
@@ -244,14 +255,14 @@ pub fn write_normal_file_size(
     let count = numbers.len();
     let answer = writable(header, LargeFileFlag::Normal, start, end, count, buf.len());
     match answer {
-        WriteResult::Refused(refusal) => WriteResult::Refused(refusal),
-        WriteResult::Written(written) => {
-            let header = written.header;
+        LengthResult::Refused(refusal) => WriteResult::Refused(refusal),
+        LengthResult::Length(length) => {
+            let header = fill(header, LargeFileFlag::Normal, count / 2);
             let crc = header.crc;
             let at = put_start(buf, header, start, end);
             put_normal(buf, at, numbers);
             verify::add_pdu_crc(buf, at + 4 * count, crc);
-            WriteResult::Written(written)
+            WriteResult::Written(NakWritten { header, length })
         }
     }
 }
@@ -270,14 +281,14 @@ pub fn write_large_file_size(
     let count = numbers.len();
     let answer = writable(header, LargeFileFlag::Large, start, end, count, buf.len());
     match answer {
-        WriteResult::Refused(refusal) => WriteResult::Refused(refusal),
-        WriteResult::Written(written) => {
-            let header = written.header;
+        LengthResult::Refused(refusal) => WriteResult::Refused(refusal),
+        LengthResult::Length(length) => {
+            let header = fill(header, LargeFileFlag::Large, count / 2);
             let crc = header.crc;
             let at = put_start(buf, header, start, end);
             put_large(buf, at, numbers);
             verify::add_pdu_crc(buf, at + 8 * count, crc);
-            WriteResult::Written(written)
+            WriteResult::Written(NakWritten { header, length })
         }
     }
 }
