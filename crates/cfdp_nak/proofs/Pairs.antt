@@ -7,10 +7,9 @@ use mathlib.Core.List.{List, [], _∷_, _++_}
 use native.Mathlib.Omega.{arith}
 use native.Mathlib.Nat.{div-add-mod', mul-le-mul-right, not-suc-le-zero, zero-add, add-zero}
 use native.Mathlib.Numerals.{add-one}
-use lib.Dec.{ltb, leb}
-use lib.ListN.{length, getD, take, drop, set, List·getD-eq-default, length-take, length-drop, length-set}
+use lib.ListN.{length, getD, take, drop, set, List·getD-eq-default, length-take, length-drop}
 use lib.Seq.{sets, sets-eq, drop-cons, drop-length, getD-take}
-use borrow.Author.Tests.{lt-ltb, le-ltb, le-leb, ltb-true, ltb-false}
+use borrow.Author.Tests.{lt-ltb, le-ltb, le-leb}
 use Rattle.fields.specs.BigEndian.{numberAt}
 use Rattle.header.specs.declared.flags.LargeFileFlag.{LargeFileFlag}
 use Rattle.header.specs.Flags.{fileIf}
@@ -23,7 +22,7 @@ use Rattle.nak.specs.Cases.{flat}
 use Rattle.nak.proofs.Parts.{number-part}
 use Rattle.nak.proofs.Walking.{pairs-count}
 use Rattle.cfdp_nak.specs.declared.read.Found.{Found}
-use Rattle.cfdp_nak.specs.Pairs.{pairsIn, isPair, pairAt, copied, copiedInto}
+use Rattle.cfdp_nak.specs.Pairs.{pairsIn, isPair, pairAt}
 
 -- ---- the pair of an index
 

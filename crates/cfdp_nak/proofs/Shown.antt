@@ -11,7 +11,7 @@ use borrow.Author.Tests.{eqb-true}
 use Rattle.fields.specs.Choice.{if_then_else_}
 use Rattle.fields.specs.declared.refusal.Refusal.{Refusal}
 use Rattle.fields.specs.declared.refusal.RefusalNumbers.{RefusalNumbers}
-use Rattle.fields.specs.Refusal.{paper, numbersOf, listed}
+use Rattle.fields.specs.Refusal.{paper, numbersOf}
 use Rattle.fields.specs.Answer.{Answer, accepted, short, refused, told}
 use Rattle.fields.proofs.OneToOne.{numbers-paper}
 use Rattle.header.specs.declared.PduHeader.{PduHeader}

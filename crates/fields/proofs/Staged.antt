@@ -16,7 +16,7 @@ use Rattle.fields.specs.Choice.{if_then_else_}
 use Rattle.fields.specs.Answer.{Answer, accepted, short, refused, told, andThen, Test, firstOf}
 use Rattle.fields.specs.Staged.{Staged, accept, refuseIf, need, run, _>>=_, _>>_, tests}
 use Rattle.fields.proofs.Judging.{Passed, told-no, told-as, told-short}
-use Rattle.fields.specs.Demand3.{Final, firsts, wait, heard, Demand3, AtMost}
+use Rattle.fields.specs.Demand3.{Final, firsts, heard, Demand3, AtMost}
 
 pub run-bind : {A B : Type 0} (r : Staged A) (f : A → Staged B) (s : List ℕ) → run (r >>= f) s ≡ andThen (run r s) (λ a. run (f a) s)
 run-bind (accept a) f s = refl

@@ -8,7 +8,7 @@ use native.Mathlib.Nat.{pow-suc, pow-le-pow-right, one-le-pow, div-eq-of-lt, div
 use native.Mathlib.Decide.{decLe}
 use lib.Pow.{pow-add}
 use lib.Dec.{eqb, ltb}
-use borrow.Author.Tests.{le-ltb, lt-ltb, ltb-true, eq-eqb, ne-eqb, eqb-true}
+use borrow.Author.Tests.{le-ltb, lt-ltb, ltb-true, eq-eqb, ne-eqb}
 use Rattle.fields.specs.Width.{isWidth, fitsWidth}
 
 -- ---- the four widths

@@ -1,6 +1,6 @@
 -- The statements of specs/Demands, proved.
 -- Assumes nothing.
-use Prim.Native.Nat.{ℕ, _+_, _*_, _^_, _<_}
+use Prim.Native.Nat.{ℕ, _+_, _^_, _<_}
 use mathlib.Core.Path.{_≡_, refl, sym, ap, _∙_}
 use mathlib.Core.Bool.{true}
 use mathlib.Core.List.{List, _++_}
@@ -9,8 +9,8 @@ use lib.Dec.{lit<}
 use lib.ListN.{length, getD, take, drop}
 use lib.Seq.{getD-take}
 use borrow.Author.Tests.{not-false}
-use Rattle.fields.specs.Width.{isWidth, fitsField}
-use Rattle.fields.specs.BigEndian.{Bytes, numberAt}
+use Rattle.fields.specs.Width.{isWidth}
+use Rattle.fields.specs.BigEndian.{Bytes}
 use Rattle.fields.specs.Answer.{Answer, accepted, leaves}
 use Rattle.fields.specs.Staged.{run}
 use Rattle.fields.specs.Demand3.{AtMost}

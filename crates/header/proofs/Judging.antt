@@ -1,12 +1,11 @@
 -- Judging a record: its answer at each test, and what a record that passed is known to be.
 -- Assumes nothing.
 use Prim.Native.Nat.{ℕ}
-use mathlib.Core.Path.{_≡_, refl, sym, ap, _∙_}
-use mathlib.Core.Bool.{true, false, not}
+use mathlib.Core.Path.{_≡_, refl}
+use mathlib.Core.Bool.{true, false}
 use mathlib.Core.List.{List, [], _∷_, _++_}
-use lib.Dec.{eqb}
 use borrow.Author.Tests.{eq-eqb, ne-eqb, eqb-true, not-false}
-use Rattle.fields.specs.Width.{isWidth, fitsWidth, fitsField}
+use Rattle.fields.specs.Width.{isWidth, fitsField}
 use Rattle.fields.specs.Answer.{Answer, accepted, told, Test, firstOf}
 use Rattle.fields.proofs.Width.{width-small, fits-lt}
 use Rattle.fields.proofs.Judging.{Passed, passed, refused-on}

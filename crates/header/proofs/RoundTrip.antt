@@ -1,27 +1,25 @@
 -- DEMAND 2 for headers: the bytes of a sound record, followed by anything, read as that record. Once over the widths.
 -- Assumes nothing.
-use Prim.Native.Nat.{ℕ, _+_, _-_, _*_, _/_, _%_, _^_, _≤_, _<_}
+use Prim.Native.Nat.{ℕ, _+_, _-_, _/_, _%_, _^_, _≤_, _<_}
 use mathlib.Core.Path.{_≡_, sym, ap, ap₂, _∙_}
-use mathlib.Core.Bool.{Bool, true, false}
-use mathlib.Core.List.{List, [], _∷_, _++_, append-assoc}
+use mathlib.Core.Bool.{Bool, true}
+use mathlib.Core.List.{List, _++_, append-assoc}
 use native.Mathlib.Omega.{arith}
 use lib.Dec.{eqb, lit<}
 use lib.ListN.{length, getD, take, length-append}
-use lib.Seq.{getD-take, take-at}
-use borrow.Author.Tests.{not-false}
+use lib.Seq.{getD-take}
 use Rattle.fields.specs.Width.{isWidth}
 use Rattle.fields.specs.BigEndian.{beBytes, numberAt}
 use Rattle.fields.specs.Answer.{accepted}
 use Rattle.fields.specs.Staged.{run}
 use Rattle.fields.proofs.BigEndian.{be-length, then-length, number-back, number-take}
-use Rattle.fields.proofs.Judging.{Passed, passed}
+use Rattle.fields.proofs.Judging.{Passed}
 use Rattle.header.specs.declared.PduHeader.{PduHeader}
-use Rattle.header.specs.Flags.{pduTypeBit, pduTypeIf, directionBit, directionIf, modeBit, modeIf, crcBit, crcIf, fileBit, fileIf, controlBit, controlIf, metadataBit, metadataIf}
+use Rattle.header.specs.Flags.{pduTypeIf, directionIf, modeIf, crcIf, fileIf, controlIf, metadataIf}
 use Rattle.header.specs.Header.{entityWidth, sequenceWidth, headerLength, firstByte, fourthByte, headerBytes}
-use Rattle.header.specs.Judging.{recordTests, Sound}
-use Rattle.header.specs.Reading.{isSet, versionIn, entityWidthIn, sequenceWidthIn, headerLengthIn, headerIn, readingHeader}
+use Rattle.header.specs.Judging.{Sound}
+use Rattle.header.specs.Reading.{isSet, entityWidthIn, sequenceWidthIn, headerLengthIn, headerIn, readingHeader}
 use Rattle.header.proofs.FlagBits as bits
-use Rattle.header.proofs.Judging.{sound}
 use Rattle.header.proofs.Reading.{whole}
 use Rattle.header.proofs.Writing.{header-length}
 

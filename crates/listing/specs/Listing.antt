@@ -1,7 +1,6 @@
 -- Whether a reading was accepted.
 use mathlib.Core.Bool.{Bool, true, false}
 use mathlib.Core.List.{List}
-use Prim.Native.Nat.{ℕ}
 use Rattle.fields.specs.Answer.{Answer, accepted, short, refused}
 
 abbrev pub isAccepted : {A : Type 0} → Answer A → Bool

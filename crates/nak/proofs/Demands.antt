@@ -1,12 +1,12 @@
 -- The statements of specs/Demands on readings and on single answers, proved; those on round trips stand in RoundTrip.
 -- Assumes nothing.
-use Prim.Native.Nat.{ℕ, _+_, _-_, _*_, _/_, _≤_, _<_}
+use Prim.Native.Nat.{ℕ, _-_, _/_, _≤_}
 use mathlib.Core.Path.{_≡_, refl, sym, ap, subst, _∙_}
 use mathlib.Core.Bool.{Bool, true, false}
-use mathlib.Core.List.{List, [], _∷_, _++_}
+use mathlib.Core.List.{List}
 use native.Mathlib.Omega.{arith}
 use lib.ListN.{length, take, drop, length-take, length-drop}
-use borrow.Author.Tests.{ltb-false, le-leb}
+use borrow.Author.Tests.{ltb-false}
 use Rattle.fields.specs.Answer.{Answer, accepted, short, told}
 use Rattle.fields.specs.Staged.{run}
 use Rattle.fields.specs.Demand3.{Final, AtMost}
@@ -14,7 +14,7 @@ use Rattle.fields.specs.declared.refusal.Refusal.the-variants.{FromSliceTooSmal
 use Rattle.fields.proofs.Staged.{at-most-bind, demand3, passed-all, both}
 use Rattle.fields.proofs.OneToOne.{answerBack, told-back, one-to-one}
 use Rattle.header.specs.declared.PduHeader.{PduHeader}
-use Rattle.header.specs.Header.{headerLength, pduLength, dataEnd}
+use Rattle.header.specs.Header.{dataEnd}
 use Rattle.header.specs.Reading.{readingHeader}
 use Rattle.header.specs.Verifying.{pduBytes}
 use Rattle.header.proofs.Demands.{header-two}
@@ -36,7 +36,7 @@ use Rattle.nak.specs.Reserving.{reserveAnswer}
 use Rattle.nak.specs.Counting.{countAnswer}
 use Rattle.nak.specs.Comparing.{compareAnswer}
 use Rattle.nak.specs.Reading.{nakAnswer, readingScope, readingDirective, readingData, readingNak}
-use Rattle.nak.specs.Requests.{areaOf, pairsOf}
+use Rattle.nak.specs.Requests.{areaOf}
 use Rattle.nak.specs.Demands.{Shows, AcceptedShows, OneNakResult, OneWriteResult, OneReserveResult, OneCountResult, OneCompareResult, NakDemand3, Readings, CodeDemand3}
 use Rattle.nak.proofs.Walking.{within, pairs-count}
 

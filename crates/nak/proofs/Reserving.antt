@@ -1,12 +1,12 @@
 -- Reserving and finishing: the answer at each exit, that what can be finished could be written, and what finishing leaves in the buffer.
 -- Assumes nothing.
-use Prim.Native.Nat.{ℕ, _+_, _-_, _*_, _/_, _%_, _≤_, _<_}
-use mathlib.Core.Path.{_≡_, refl, sym, ap, ap₂, _∙_}
-use mathlib.Core.Bool.{Bool, true, false, not}
+use Prim.Native.Nat.{ℕ, _+_, _-_, _*_, _/_, _≤_, _<_}
+use mathlib.Core.Path.{_≡_, refl, sym, ap, _∙_}
+use mathlib.Core.Bool.{Bool, true, false}
 use mathlib.Core.List.{List, [], _∷_, _++_, append-assoc}
 use native.Mathlib.Nat.{zero-add}
 use native.Mathlib.Omega.{arith}
-use lib.ListN.{length, take, drop, length-append, length-take, length-drop, take-append-drop}
+use lib.ListN.{length, take, drop, length-append, length-drop, take-append-drop}
 use lib.Seq.{sets, sets-eq, drop-drop, length-take-le}
 use borrow.Author.Tests.{lt-ltb, le-ltb, ltb-false, not-false}
 use Rattle.fields.specs.Answer.{Answer, accepted, told, firstOf, leaves}
@@ -20,7 +20,7 @@ use Rattle.header.proofs.Judging.{refused-first}
 use Rattle.header.proofs.Verifying.{end-sum}
 use Rattle.nak.specs.declared.write.NakWritten.{NakWritten}
 use Rattle.nak.specs.declared.reserve.ReservedNak.{ReservedNak}
-use Rattle.nak.specs.Nak.{offsetWidth, areaStart}
+use Rattle.nak.specs.Nak.{areaStart}
 use Rattle.nak.specs.Writing.{startBytes, nakOver, mostPairs, filled, scopeFits, scopeTooLarge, tooMany, noRoom, judgingNak, intoRoom, writingNak}
 use Rattle.nak.specs.Reserving.{pairTests, keeping, judgingPairs, placed, reserving, finishing, areaIn, finishedMemory}
 use Rattle.nak.proofs.Writing.{ToWrite, to-write, judged-nak, into-room, filled-flag, start-length, sealed}

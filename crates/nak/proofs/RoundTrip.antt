@@ -2,7 +2,7 @@
 -- Assumes nothing.
 use Prim.Native.Nat.{ℕ, zero, suc, _+_, _-_, _*_, _/_, _%_, _^_, _≤_, _<_}
 use mathlib.Core.Path.{_≡_, refl, sym, ap, ap₂, subst, _∙_}
-use mathlib.Core.Bool.{Bool, true, false, _&&_}
+use mathlib.Core.Bool.{Bool, true, _&&_}
 use mathlib.Core.List.{List, [], _∷_, _++_, append-assoc}
 use native.Mathlib.Nat.{div-add-mod'}
 use native.Mathlib.Omega.{arith}
@@ -40,13 +40,13 @@ use Rattle.nak.specs.declared.reserve.ReservedNak.{ReservedNak}
 use Rattle.nak.specs.declared.compare.Likeness.{Likeness}
 use Rattle.nak.specs.Nak.{offsetWidth, pairSize, areaStart, nakIn}
 use Rattle.nak.specs.Directive.{nakCode, isKnown}
-use Rattle.nak.specs.Reading.{nakAnswer, readingScope, readingDirective, readingData, readingNak}
+use Rattle.nak.specs.Reading.{readingDirective, readingData, readingNak}
 use Rattle.nak.specs.Requests.{areaOf, pairsFrom, pairsOf}
-use Rattle.nak.specs.Writing.{numbersBytes, startBytes, nakOver, nakBytes, dataLength, mostPairs, filled, scopeFits, oddCount, scopeTooLarge, tooMany, nakTests, noRoom, judgingNak, intoRoom, writingNak, nakMemory}
+use Rattle.nak.specs.Writing.{numbersBytes, startBytes, nakOver, nakBytes, dataLength, filled, scopeFits, oddCount, scopeTooLarge, tooMany, nakTests, noRoom, judgingNak, intoRoom, writingNak, nakMemory}
 use Rattle.nak.specs.Reserving.{pairTests, keeping, placed, reserving, finishing, areaIn, finishedMemory}
 use Rattle.nak.specs.Comparing.{sameNak, holdsNumbers, likening, comparing}
 use Rattle.nak.specs.Demands.{byTurns, Lent, readAs, ReadsBack, MostPairsFit, WrittenReadsBack, CodeReadsBack, Written, FinishedIsWritten, ComparingSaysYes, Equals, YesMeansEqual}
-use Rattle.nak.proofs.Reading.{scope-whole, nak-code, verified-data, read-header}
+use Rattle.nak.proofs.Reading.{scope-whole, nak-code, read-header}
 use Rattle.nak.proofs.Walking.{within}
 use Rattle.nak.proofs.Writing.{ToWrite, to-write, scope-fits, pairs-bytes, doubled, start-length, numbers-length, filled-flag}
 use Rattle.nak.proofs.Reserving.{finish-writes}

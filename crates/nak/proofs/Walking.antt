@@ -1,14 +1,14 @@
 -- The request area and the cursor, once for both file flags: walking from the start shows exactly the pairs, and then the end for ever.
 -- Assumes nothing.
 use Prim.Native.Nat.{ℕ, zero, suc, _+_, _-_, _*_, _/_, _≤_, _<_}
-use mathlib.Core.Path.{_≡_, refl, sym, ap, _∙_}
+use mathlib.Core.Path.{_≡_, refl, sym, ap}
 use mathlib.Core.Bool.{Bool, true, false}
 use mathlib.Core.List.{List, [], _∷_}
 use native.Mathlib.Omega.{arith}
 use native.Mathlib.Nat.{div-add-mod', mod-lt, not-suc-le-zero}
 use lib.Dec.{lit<, leb}
 use lib.ListN.{length, take, drop}
-use borrow.Author.Tests.{le-leb, lt-leb, leb-true, leb-false, eq-eqb, ne-eqb}
+use borrow.Author.Tests.{le-leb, lt-leb, leb-false, eq-eqb, ne-eqb}
 use Rattle.fields.specs.Choice.{if_then_else_}
 use Rattle.fields.specs.BigEndian.{numberAt}
 use Rattle.header.specs.declared.flags.LargeFileFlag.{LargeFileFlag}

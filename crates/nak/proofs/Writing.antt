@@ -1,10 +1,10 @@
 -- Writing a NAK: its judgement at each exit, what an accepted one has, and the stores of its bytes. Once for both widths.
 -- Assumes nothing.
-use Prim.Native.Nat.{ℕ, zero, suc, _+_, _-_, _*_, _/_, _%_, _^_, _≤_, _<_}
+use Prim.Native.Nat.{ℕ, _+_, _*_, _/_, _%_, _^_, _≤_, _<_}
 use mathlib.Core.Path.{_≡_, refl, sym, ap, ap₂, _∙_}
-use mathlib.Core.Bool.{Bool, true, false, not, _&&_}
-use mathlib.Core.List.{List, [], _∷_, _++_, append-assoc, append-nil}
-use native.Mathlib.Nat.{zero-add, add-zero, div-add-mod', mul-le-mul-left}
+use mathlib.Core.Bool.{Bool, true, false, _&&_}
+use mathlib.Core.List.{List, [], _∷_, _++_, append-nil}
+use native.Mathlib.Nat.{zero-add, div-add-mod', mul-le-mul-left}
 use native.Mathlib.Numerals.{add-one}
 use native.Mathlib.Omega.{arith}
 use lib.Dec.{eqb, lit<}
@@ -28,7 +28,7 @@ use Rattle.header.specs.Judging.{recordTests, building}
 use Rattle.header.specs.Writing.{headerMemory}
 use Rattle.header.specs.Verifying.{checksumBytes, crcAdded}
 use Rattle.header.proofs.Judging.{with-tests, refused-first}
-use Rattle.header.proofs.Writing.{header-length, with-length, header-stored}
+use Rattle.header.proofs.Writing.{header-length, header-stored}
 use Rattle.header.proofs.Verifying.{pdu-sum, added-sets, checksum-length}
 use Rattle.nak.specs.declared.write.NakWritten.{NakWritten}
 use Rattle.nak.specs.Nak.{offsetWidth, pairSize, areaStart}

@@ -1,10 +1,9 @@
 -- Writing a NAK (CCSDS 727.0-B-5, 5.2.6; document 01): its bytes, its refusals in their orders, the answers, and the lent memory at exit.
-use Prim.Native.Nat.{ℕ, _+_, _-_, _*_, _/_, _%_, _≤_, _<_}
-use mathlib.Core.Path.{_≡_}
+use Prim.Native.Nat.{ℕ, _+_, _*_, _/_, _%_}
 use mathlib.Core.Bool.{Bool, _&&_, not}
 use mathlib.Core.List.{List, [], _∷_, _++_}
 use lib.Dec.{eqb, ltb}
-use lib.ListN.{length, take, drop}
+use lib.ListN.{length}
 use Rattle.fields.specs.Width.{fitsWidth}
 use Rattle.fields.specs.BigEndian.{beBytes}
 use Rattle.fields.specs.Answer.{Answer, accepted, told, Test, when, firstOf, leaves}
@@ -15,14 +14,14 @@ use Rattle.header.specs.declared.flags.CrcFlag.{CrcFlag}
 use Rattle.header.specs.declared.flags.LargeFileFlag.{LargeFileFlag}
 use Rattle.header.specs.declared.flags.LargeFileFlag.the-variants.{Normal, Large}
 use Rattle.header.specs.Flags.{crcBit}
-use Rattle.header.specs.Header.{headerLength, pduLength, dataEnd, headerBytes, withDirection, withFileFlag, withLength}
+use Rattle.header.specs.Header.{pduLength, headerBytes, withDirection, withFileFlag, withLength}
 use Rattle.header.specs.Judging.{recordTests}
 use Rattle.header.specs.Verifying.{checksumBytes}
 use Rattle.nak.specs.declared.write.NakWritten.{NakWritten}
 use Rattle.nak.specs.declared.write.WriteResult.{WriteResult}
 use Rattle.nak.specs.declared.write.WriteResult.the-variants.{Written, Refused}
 use Rattle.nak.specs.Directive.{nakCode}
-use Rattle.nak.specs.Nak.{offsetWidth, pairSize, areaStart}
+use Rattle.nak.specs.Nak.{offsetWidth, pairSize}
 
 abbrev pub writeAnswer : WriteResult → Answer NakWritten
 writeAnswer (Written w) = accepted w

@@ -1,7 +1,7 @@
 -- `cfdp_nak::read::cfdp_nak_pairs` meets its contract. The loop's invariant: storing the pairs that are left gives what is to be stored.
 -- Assumes nothing.
-use Prim.Native.Nat.{ℕ, _+_, _-_, _*_, _/_, _≤_, _<_}
-use mathlib.Core.Path.{_≡_, refl, sym, ap, _∙_}
+use Prim.Native.Nat.{_-_, _*_, _/_, _≤_, _<_}
+use mathlib.Core.Path.{_≡_, refl, sym, _∙_}
 use native.Mathlib.Omega.{arith}
 use lib.ListN.{length, take, drop, length-take, length-set}
 use lib.Seq.{sets}

@@ -1,6 +1,6 @@
 -- `cfdp_nak::read::pair_at` meets its contract: an index below the count of whole pairs has its pair, and the cursor shows it in its bytes.
 -- Assumes nothing.
-use mathlib.Core.Path.{sym, ap, _∙_}
+use mathlib.Core.Path.{sym, _∙_}
 use native.Mathlib.Omega.{arith}
 use Rattle.cfdp_nak.proofs.Pairs.{whole-pair, no-pair, found-pair, not-end}
 use borrow.Author.Needs.{needs}

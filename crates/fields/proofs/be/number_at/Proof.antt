@@ -1,6 +1,6 @@
 -- `fields::be::number_at` meets its contract. The loop's invariant: the value so far and the bytes that are left give the number, and the value has as many bytes as were read.
 -- Assumes nothing.
-use mathlib.Core.Path.{_≡_, sym, _∙_}
+use mathlib.Core.Path.{_≡_, _∙_}
 use Prim.Native.Nat.{_+_, _-_, _^_, _≤_, _<_}
 use native.Mathlib.Omega.{arith}
 use borrow.Author.Needs.{needs}

@@ -1,6 +1,6 @@
 -- `header::PduHeader::eq` meets its contract: the first part that differs decides.
 -- Assumes nothing.
-use mathlib.Core.Path.{_≡_, sym, _∙_}
+use mathlib.Core.Path.{sym, _∙_}
 use borrow.Author.Tests.{not-true, not-false, eq-eqb, ne-eqb}
 use Rattle.header.specs.Comparing.{sameHeader}
 use borrow.Author.Needs.{needs}

@@ -1,6 +1,5 @@
 -- `header::compare::same_flags` meets its contract: the first flag that differs decides.
 -- Assumes nothing.
-use mathlib.Core.Path.{_≡_}
 use Rattle.header.specs.Comparing.{sameFlags}
 use Rattle.header.proofs.Comparing.{differ, agree, as-is}
 use borrow.Author.Needs.{needs}

@@ -1,7 +1,7 @@
 -- `nak::compare::holds_normal` meets its contract. The loop's invariant: what is left of the area against the numbers that are left decides.
 -- Assumes nothing.
-use Prim.Native.Nat.{ℕ, _+_, _-_, _≤_}
-use mathlib.Core.Path.{_≡_, refl, sym, _∙_}
+use Prim.Native.Nat.{_-_, _≤_}
+use mathlib.Core.Path.{_≡_, refl, _∙_}
 use native.Mathlib.Omega.{arith}
 use lib.ListN.{length, drop}
 use Rattle.nak.specs.Comparing.{holdsNumbers}

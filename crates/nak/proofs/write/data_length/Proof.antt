@@ -1,6 +1,5 @@
 -- `nak::write::data_length` meets its contract: the scope and so many pairs have at most 65,528 bytes.
 -- Assumes nothing.
-use mathlib.Core.Path.{_≡_}
 use native.Mathlib.Omega.{arith}
 use Rattle.nak.proofs.Writing.{pairs-bytes, data-is}
 use borrow.Author.Needs.{needs}

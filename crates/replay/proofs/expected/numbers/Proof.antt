@@ -1,7 +1,6 @@
 -- `replay::expected::numbers` is safe and ends: the place is within the numbers, and rises.
 -- Assumes nothing.
-use Prim.Native.Nat.{_≤_, _-_, _*_}
-use mathlib.Core.Path.{_≡_}
+use Prim.Native.Nat.{_≤_, _-_}
 use lib.ListN.{length}
 use borrow.Author.Needs.{needs}
 use Rattle.replay.proofs.expected.numbers.Statement.{statement}

@@ -1,7 +1,6 @@
 -- `replay::expected::one_by_one` is safe and ends: the place is within half the copied numbers, and rises.
 -- Assumes nothing.
 use Prim.Native.Nat.{_≤_, _-_, _*_}
-use mathlib.Core.Path.{_≡_}
 use lib.ListN.{length}
 use borrow.Author.Needs.{needs}
 use Rattle.replay.proofs.expected.one_by_one.Statement.{statement}

@@ -1,6 +1,6 @@
 -- `replay::list::normal` meets its contract: a store keeps the length, which the count does not exceed.
 -- Assumes nothing.
-use Prim.Native.Nat.{_≤_, _-_, _*_}
+use Prim.Native.Nat.{_≤_, _-_}
 use mathlib.Core.Path.{_≡_}
 use lib.ListN.{length}
 use borrow.Author.Needs.{needs}
