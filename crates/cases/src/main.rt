@@ -19,6 +19,9 @@ use nak::reserve::ReservedNak;
 use nak::write;
 use nak::write::WriteResult;
 
+// N's pair, 100 and 200, as the caller of a reserved NAK stores it.
+const PAIR: u64 = 0x64000000C8;
+
 const N: [u8; 24] = [
     0x28,
     0x00,
@@ -171,9 +174,8 @@ fn writing(case: &[u8], result: WriteResult) {
 
 // The bytes that a call left.
 fn left(buf: &[u8]) {
-    io::write_all(STDOUT_FILENO, b"left: ");
     print_bytes(buf);
-    io::write_all(STDOUT_FILENO, b"\n");
+    io::write_all(STDOUT_FILENO, b"left\n");
 }
 
 fn normal_lists() {
@@ -254,8 +256,7 @@ fn finishes_n() {
             listing::print_refusal(refusal);
         }
         ReserveResult::Reserved(reserved) => {
-            be::write_be(&mut buf, reserved.area, 4, 100);
-            be::write_be(&mut buf, reserved.stop - 4, 4, 200);
+            be::write_be(&mut buf, reserved.area, 8, PAIR);
             writing(
                 b"N, reserved and finished",
                 reserved.finish(0, 1000, &mut buf),
