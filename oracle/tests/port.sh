@@ -4,23 +4,7 @@
 # replay list, and the comparer counts each wrong answer that is put in on the way.
 # The last line is 'N passed, M failed'; ends with 1 if anything failed.
 set -eu
-here=$(cd "$(dirname "$0")" && pwd)
-bin=$here/../target/release
-work=$(mktemp -d)
-trap 'rm -rf "$work"' EXIT
-passed=0
-failed=0
-
-# expect NAME EXPECTED-FILE ACTUAL-FILE
-expect() {
-    if cmp -s "$2" "$3"; then
-        passed=$((passed + 1))
-    else
-        failed=$((failed + 1))
-        echo "failed: $1 (< expected, > seen)"
-        diff "$2" "$3" || true
-    fi
-}
+. "$(dirname "$0")/expect.sh"
 
 # compared NAME LIST PORT EXPECTED: the comparer's last line and how it ends
 compared() {

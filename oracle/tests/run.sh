@@ -4,23 +4,7 @@
 # Rust, naklist prints what document 01 says, and the kept replay list is the one that is written.
 # The last line is 'N passed, M failed'; ends with 1 if anything failed.
 set -eu
-here=$(cd "$(dirname "$0")" && pwd)
-bin=$here/../target/release
-work=$(mktemp -d)
-trap 'rm -rf "$work"' EXIT
-passed=0
-failed=0
-
-# expect NAME EXPECTED-FILE ACTUAL-FILE
-expect() {
-    if cmp -s "$2" "$3"; then
-        passed=$((passed + 1))
-    else
-        failed=$((failed + 1))
-        echo "failed: $1 (< expected, > seen)"
-        diff "$2" "$3" || true
-    fi
-}
+. "$(dirname "$0")/expect.sh"
 
 # lines NAME: the answers to NAME.txt, each line a case, copied ones left out
 lines() {

@@ -1,4 +1,4 @@
-// Runs every published checksum vector that we know, and document 01's cases; each is printed with where it comes from, its bytes and what they give.
+// Runs every published checksum vector that we know, document 01's cases, and cases of its rules; each is printed with where it comes from and what it gives.
 use fields::EntityId;
 use fields::TransactionSeqNum;
 use fields::UnsignedByteField;

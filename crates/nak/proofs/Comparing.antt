@@ -10,7 +10,7 @@ use lib.ListN.{length, getD, drop, length-drop, drop-of-length-le}
 use lib.Seq.{drop-cons, drop-drop}
 use borrow.Author.Tests.{lt-leb, le-leb, eqb-true, eqb-false, eq-eqb, ne-eqb}
 use Rattle.fields.specs.BigEndian.{numberAt, beAt}
-use Rattle.fields.specs.Answer.{Answer, accepted, told, andThen}
+use Rattle.fields.specs.Answer.{Answer, accepted, short, refused, told, andThen}
 use Rattle.fields.specs.Staged.{run}
 use Rattle.fields.proofs.BigEndian.{at-number, number-drop}
 use Rattle.fields.proofs.Judging.{told-on}
@@ -23,7 +23,8 @@ use Rattle.nak.specs.Nak.{offsetWidth}
 use Rattle.nak.specs.Reading.{readingNak}
 use Rattle.nak.specs.Requests.{areaOf}
 use Rattle.nak.specs.Writing.{judgingNak}
-use Rattle.nak.specs.Comparing.{sameNak, holdsNumbers, likening, comparing}
+use Rattle.nak.specs.Comparing.{sameNak, holdsNumbers, comparing}
+use Rattle.nak.specs.Within.{likening}
 
 -- ---- header and scope
 
@@ -97,15 +98,29 @@ numbers-end w area ns at i h e = rw (drop-of-length-le ns e, length-drop) (go (e
 
 -- ---- the whole
 
+-- going on from what goes on
+then-then : {A B C : Type 0} (o : Answer A) (f : A → Answer B) (g : B → Answer C) → andThen (andThen o f) g ≡ andThen o (λ a. andThen (f a) g)
+then-then (accepted a) f g = refl
+then-then (short l n) f g = refl
+then-then (refused ns) f g = refl
+
 module _ (file : LargeFileFlag) (h : PduHeader) (start end : ℕ) (numbers s : List ℕ) where
+  abbrev decide : Likeness → Answer Bool
+  decide l = accepted (l .same && holdsNumbers (offsetWidth file) (areaOf (l .nak) s) numbers)
+
+  -- comparing is likening, and then the list
+  likens : andThen (likening file h start end (length numbers) s) decide ≡ comparing file h start end numbers s
+  unfolding likening comparing
+  likens =
+      then-then (run readingNak s) _ decide
+      ∙ (λ i. andThen (run readingNak s) (λ n. then-then (judgingNak file h start end (length numbers)) (λ w. accepted (record { nak = n; same = sameNak n w start end })) decide i))
+
   pub refused-compare : (ns : List ℕ) → told ns ≡ likening file h start end (length numbers) s → told ns ≡ comparing file h start end numbers s
-  unfolding comparing
-  refused-compare ns e = sym (told-on ns _) ∙ ap (λ (o : Answer Likeness). andThen o (λ l. accepted (l .same && holdsNumbers (offsetWidth file) (areaOf (l .nak) s) numbers))) e
+  refused-compare ns e = sym (told-on ns decide) ∙ ap (λ (o : Answer Likeness). andThen o decide) e ∙ likens
 
   module _ (l : Likeness) (e : accepted l ≡ likening file h start end (length numbers) s) where
-    decided : accepted (l .same && holdsNumbers (offsetWidth file) (areaOf (l .nak) s) numbers) ≡ comparing file h start end numbers s
-    unfolding comparing
-    decided = ap (λ (o : Answer Likeness). andThen o (λ l. accepted (l .same && holdsNumbers (offsetWidth file) (areaOf (l .nak) s) numbers))) e
+    decided : decide l ≡ comparing file h start end numbers s
+    decided = ap (λ (o : Answer Likeness). andThen o decide) e ∙ likens
 
     pub not-alike : l .same ≡ false → accepted false ≡ comparing file h start end numbers s
     not-alike p = ap (λ (b : Bool). accepted (b && holdsNumbers (offsetWidth file) (areaOf (l .nak) s) numbers)) (sym p) ∙ decided

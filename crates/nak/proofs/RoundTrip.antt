@@ -24,6 +24,7 @@ use Rattle.header.specs.declared.flags.LargeFileFlag.the-variants.{Normal, Larg
 use Rattle.header.specs.Flags.{crcBit}
 use Rattle.header.specs.Header.{headerLength, pduLength, dataEnd, headerBytes}
 use Rattle.header.specs.Judging.{recordTests}
+use Rattle.header.specs.Comparing.{sameHeader}
 use Rattle.header.specs.Reading.{readingHeader}
 use Rattle.header.specs.Verifying.{pduBytes, checksumBytes}
 use Rattle.header.proofs.FlagBits.{crc-bit}
@@ -37,14 +38,13 @@ use Rattle.nak.specs.declared.NakResult.{NakResult}
 use Rattle.nak.specs.declared.NakResult.the-variants.{Nak as Read}
 use Rattle.nak.specs.declared.write.NakWritten.{NakWritten}
 use Rattle.nak.specs.declared.reserve.ReservedNak.{ReservedNak}
-use Rattle.nak.specs.declared.compare.Likeness.{Likeness}
 use Rattle.nak.specs.Nak.{offsetWidth, pairSize, areaStart, nakIn}
 use Rattle.nak.specs.Directive.{nakCode, isKnown}
 use Rattle.nak.specs.Reading.{readingDirective, readingData, readingNak}
 use Rattle.nak.specs.Requests.{areaOf, pairsFrom, pairsOf}
 use Rattle.nak.specs.Writing.{numbersBytes, startBytes, nakOver, nakBytes, dataLength, filled, scopeFits, oddCount, scopeTooLarge, tooMany, nakTests, noRoom, judgingNak, intoRoom, writingNak, nakMemory}
 use Rattle.nak.specs.Reserving.{pairTests, keeping, placed, reserving, finishing, areaIn, finishedMemory}
-use Rattle.nak.specs.Comparing.{sameNak, holdsNumbers, likening, comparing}
+use Rattle.nak.specs.Comparing.{sameNak, holdsNumbers, comparing}
 use Rattle.nak.specs.Demands.{byTurns, Lent, readAs, ReadsBack, MostPairsFit, WrittenReadsBack, CodeReadsBack, Written, FinishedIsWritten, ComparingSaysYes, Equals, YesMeansEqual}
 use Rattle.nak.proofs.Reading.{scope-whole, nak-code, read-header}
 use Rattle.nak.proofs.Walking.{within}
@@ -309,7 +309,7 @@ judged-write file h start end count room w e =
     all-passed (nakTests file h start end count) F g ∙ ap (λ (x : NakWritten). accepted (x .header)) (sym (p .1))
 
 pub comparing-says-yes : ComparingSaysYes
-unfolding comparing likening sameNak nakBytes
+unfolding sameNak
 comparing-says-yes file h start end room numbers t w lent e =
     let k = w .header in
     let s = nakBytes k start end numbers ++ t in
@@ -385,18 +385,16 @@ even-list file h start end count w e =
     omega (arith, eqb-true (count % 2) 0 (not-false (eqb (count % 2) 0) (u .0)), div-add-mod' count 2)
 
 pub yes-means-equal : YesMeansEqual
-unfolding comparing likening sameNak
+unfolding comparing sameNak
 yes-means-equal file h start end numbers s e =
-    let c = went (likening file h start end (length numbers) s) _ true e in
-    let r = went (run readingNak s) _ (c .mid) (c .first) in
-    let j = went (judgingNak file h start end (length numbers)) _ (c .mid) (r .second) in
+    let r = went (run readingNak s) _ true e in
+    let j = went (judgingNak file h start end (length numbers)) _ true (r .second) in
     let n = r .mid in
     let w = j .mid in
-    let l : record { nak = n; same = sameNak n w start end } ≡ c .mid = same-accepted _ _ (j .second) in
-    let y = both-true _ _ (same-accepted _ _ (c .second)) in
-    let same = both-true _ _ (ap (λ (x : Likeness). x .same) l ∙ y .0) in
-    let header = both-true _ _ (same .0) in
-    let holds : holdsNumbers (offsetWidth file) (areaOf n s) numbers ≡ true = ap (λ (x : Likeness). holdsNumbers (offsetWidth file) (areaOf (x .nak) s) numbers) l ∙ y .1 in
+    let y = both-true (sameNak n w start end) (holdsNumbers (offsetWidth file) (areaOf n s) numbers) (same-accepted _ _ (j .second)) in
+    let same = both-true (sameHeader (n .header) w && eqb (n .start) start) (eqb (n .end) end) (y .0) in
+    let header = both-true (sameHeader (n .header) w) (eqb (n .start) start) (same .0) in
+    let holds = y .1 in
     let whole = holds-length (offsetWidth file) (areaOf n s) numbers holds in
     let even = even-list file h start end (length numbers) w (j .first) in
     record {

@@ -12,9 +12,6 @@ use Rattle.header.specs.declared.PduHeader.{PduHeader}
 use Rattle.header.specs.declared.flags.LargeFileFlag.{LargeFileFlag}
 use Rattle.header.specs.Comparing.{sameHeader}
 use Rattle.nak.specs.declared.Nak.{Nak}
-use Rattle.nak.specs.declared.compare.Likeness.{Likeness}
-use Rattle.nak.specs.declared.compare.LikenessResult.{LikenessResult}
-use Rattle.nak.specs.declared.compare.LikenessResult.the-variants.{Likeness as Alike, Refused as NotAlike}
 use Rattle.nak.specs.declared.compare.CompareResult.{CompareResult}
 use Rattle.nak.specs.declared.compare.CompareResult.the-variants.{Equal, Different, Refused}
 use Rattle.nak.specs.Nak.{offsetWidth}
@@ -36,16 +33,9 @@ unfoldable pub holdsNumbers : ℕ → List ℕ → List ℕ → Bool
 holdsNumbers w area [] = eqb (length area) 0
 holdsNumbers w area (v ∷ vs) = leb w (length area) && eqb (numberAt area 0 w) v && holdsNumbers w (drop w area) vs
 
--- the reader's refusals, then the writer's but 11; else the NAK that was read, and whether header and scope are those handed back
-unfoldable pub likening : LargeFileFlag → PduHeader → ℕ → ℕ → ℕ → List ℕ → Answer Likeness
-likening file h start end count s =
-    andThen (run readingNak s) (λ n. andThen (judgingNak file h start end count) (λ w. accepted (record { nak = n; same = sameNak n w start end })))
-
--- else yes exactly when they are, and the request area is exactly the pairs
+-- the reader's refusals, then the writer's but 11; else yes exactly when header and scope are those handed back, and the area is exactly the numbers
 unfoldable pub comparing : LargeFileFlag → PduHeader → ℕ → ℕ → List ℕ → List ℕ → Answer Bool
 comparing file h start end numbers s =
-    andThen (likening file h start end (length numbers) s) (λ l. accepted (l .same && holdsNumbers (offsetWidth file) (areaOf (l .nak) s) numbers))
-
-abbrev pub likenessAnswer : LikenessResult → Answer Likeness
-likenessAnswer (Alike l) = accepted l
-likenessAnswer (NotAlike r) = told (paper r)
+    andThen (run readingNak s) (λ n.
+    andThen (judgingNak file h start end (length numbers)) (λ w.
+    accepted (sameNak n w start end && holdsNumbers (offsetWidth file) (areaOf n s) numbers)))

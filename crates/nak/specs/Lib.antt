@@ -7,5 +7,6 @@ pub mod Writing
 pub mod Reserving
 pub mod Counting
 pub mod Comparing
+pub mod Within
 pub mod Cases
 pub mod Demands

@@ -99,10 +99,6 @@ intoRoom ts h room = firstOf (ts ++ (noRoom room h ∷ [])) (record { header = h
 unfoldable pub writingNak : LargeFileFlag → PduHeader → ℕ → ℕ → ℕ → ℕ → Answer NakWritten
 writingNak file h start end count room = intoRoom (nakTests file h start end count) (filled file (count / 2) h) room
 
--- the same, and of what is accepted only the written length
-unfoldable pub writingLength : LargeFileFlag → PduHeader → ℕ → ℕ → ℕ → ℕ → Answer ℕ
-writingLength file h start end count room = firstOf (nakTests file h start end count ++ (noRoom room (filled file (count / 2) h) ∷ [])) (pduLength (filled file (count / 2) h))
-
 -- the buffer at exit: the NAK's bytes in front, the rest as it was; a refusal changes nothing
 unfoldable pub nakMemory : LargeFileFlag → PduHeader → ℕ → ℕ → List ℕ → List ℕ → List ℕ
 nakMemory file h start end numbers s = leaves (writingNak file h start end (length numbers) (length s)) (λ w. nakBytes (w .header) start end numbers) s

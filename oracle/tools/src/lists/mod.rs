@@ -15,14 +15,9 @@ use std::io::{Result, Write};
 /// The oracle's own list, with the commands of the later requests.
 pub fn whole(seed: u64, out: &mut impl Write) -> Result<()> {
     let random = &mut Random(seed);
-    reading::checksums(random, out)?;
-    reading::first_and_fourth_bytes(random, out)?;
-    reading::directives(random, out, &["read", "eof", "ack", "metadata"])?;
-    reading::short_data(random, out)?;
+    short(random, out, &["read", "eof", "ack", "metadata"])?;
     reading::damaged_naks(random, out)?;
-    writing::writes(random, out)?;
-    writing::records(random, out)?;
-    writing::comparisons(random, out)?;
+    with_records(random, out)?;
     later::later_reads(random, out)?;
     later::later_writes(random, out)
 }
@@ -30,18 +25,13 @@ pub fn whole(seed: u64, out: &mut impl Write) -> Result<()> {
 /// What port and Rust are both asked.
 pub fn base(seed: u64, out: &mut impl Write) -> Result<()> {
     let random = &mut Random(seed);
-    reading::checksums(random, out)?;
-    reading::first_and_fourth_bytes(random, out)?;
-    reading::directives(random, out, &["read"])?;
-    reading::short_data(random, out)?;
+    short(random, out, &["read"])?;
     for _ in 0..3 {
         reading::damaged_naks(random, out)?;
     }
     reading::any_bytes(random, out)?;
     reading::beginnings(random, out)?;
-    writing::writes(random, out)?;
-    writing::records(random, out)?;
-    writing::comparisons(random, out)?;
+    with_records(random, out)?;
     boundary::reads(random, out)?;
     boundary::headers(random, out)?;
     boundary::naks(random, out)?;
@@ -50,6 +40,21 @@ pub fn base(seed: u64, out: &mut impl Write) -> Result<()> {
     limits::widths(random, out)?;
     limits::pairs(random, out)?;
     limits::odd(random, out)
+}
+
+/// Checksums, and what a reader sees first; `readers` are the commands that are asked each directive.
+fn short(random: &mut Random, out: &mut impl Write, readers: &[&str]) -> Result<()> {
+    reading::checksums(random, out)?;
+    reading::first_and_fourth_bytes(random, out)?;
+    reading::directives(random, out, readers)?;
+    reading::short_data(random, out)
+}
+
+/// The commands that take a record.
+fn with_records(random: &mut Random, out: &mut impl Write) -> Result<()> {
+    writing::writes(random, out)?;
+    writing::records(random, out)?;
+    writing::comparisons(random, out)
 }
 
 /// A record for every pair of widths.

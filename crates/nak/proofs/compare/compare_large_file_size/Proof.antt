@@ -2,7 +2,7 @@
 -- Assumes nothing.
 use mathlib.Core.Path.{refl, sym, ap, _∙_}
 use borrow.Author.Tests.{not-true, not-false}
-use Rattle.nak.specs.Comparing.{likenessAnswer}
+use Rattle.nak.specs.Within.{likenessAnswer}
 use Rattle.nak.proofs.Comparing.{refused-compare, not-alike, list-decides}
 use borrow.Author.Needs.{needs}
 use Rattle.nak.proofs.compare.compare_large_file_size.Statement.{statement}

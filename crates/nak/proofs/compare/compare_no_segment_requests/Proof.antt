@@ -3,7 +3,7 @@
 use mathlib.Core.Path.{refl, sym, ap, _∙_}
 use mathlib.Core.List.{[]}
 use borrow.Author.Tests.{not-true, not-false}
-use Rattle.nak.specs.Comparing.{likenessAnswer}
+use Rattle.nak.specs.Within.{likenessAnswer}
 use Rattle.nak.proofs.Comparing.{refused-compare, not-alike, nothing-decides}
 use borrow.Author.Needs.{needs}
 use Rattle.nak.proofs.compare.compare_no_segment_requests.Statement.{statement}
