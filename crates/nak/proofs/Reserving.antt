@@ -10,7 +10,7 @@ use lib.ListN.{length, take, drop, length-append, length-drop, take-append-drop}
 use lib.Seq.{sets, sets-eq, drop-drop, length-take-le}
 use borrow.Author.Tests.{lt-ltb, le-ltb, ltb-false, not-false}
 use Rattle.fields.specs.Answer.{Answer, accepted, told, firstOf, leaves}
-use Rattle.fields.proofs.Judging.{Passed, passed, passed-first, passed-last, passed-on, refused-on, told-leaves}
+use Rattle.fields.proofs.Judging.{Passed, passed, all-passed, passed-first, passed-last, passed-on, refused-on, told-leaves}
 use Rattle.header.specs.declared.PduHeader.{PduHeader}
 use Rattle.header.specs.Flags.{crcBit}
 use Rattle.header.specs.Header.{pduLength, dataEnd}
@@ -64,14 +64,12 @@ module _ (h : PduHeader) (n room : ℕ) where
         let p = passed (pairTests h n) w (keeping h n) e in
         passed-on (pairTests h n) (noRoom room (keeping h n) ∷ []) _ (p .0) ∙ ap (λ (x : PduHeader). firstOf (noRoom room x ∷ []) (placed x n)) (sym (p .1))
 
-    pub no-reserve : (ns : List ℕ) → told ns ≡ intoRoom [] w room → told ns ≡ reserving h n room
-    unfolding intoRoom
+    pub no-reserve : (ns : List ℕ) → told ns ≡ firstOf (noRoom room w ∷ []) (pduLength w) → told ns ≡ reserving h n room
     no-reserve ns d = refused-on ns (noRoom room w ∷ []) [] _ _ d ∙ sym the-room
 
-    pub reserved-is : (v : NakWritten) (r : ReservedNak) → accepted v ≡ intoRoom [] w room → r ≡ placed w n → accepted r ≡ reserving h n room
-    unfolding intoRoom
+    pub reserved-is : (v : ℕ) (r : ReservedNak) → accepted v ≡ firstOf (noRoom room w ∷ []) (pduLength w) → r ≡ placed w n → accepted r ≡ reserving h n room
     reserved-is v r d q =
-        ap accepted q ∙ sym (passed-on (noRoom room w ∷ []) [] (placed w n) (passed (noRoom room w ∷ []) v _ d .0)) ∙ sym the-room
+        ap accepted q ∙ sym (all-passed (noRoom room w ∷ []) (placed w n) (passed (noRoom room w ∷ []) v _ d .0)) ∙ sym the-room
 
 -- ---- finishing
 
@@ -97,7 +95,7 @@ module _ (r : ReservedNak) (start end room : ℕ) where
         refused-on (9 ∷ start ∷ end ∷ []) (pairTests (r .header) (r .count) ++ (scopeTooLarge (r .header .file) start end ∷ [])) _ (r .header) _
         (rw (passed-on (pairTests (r .header) (r .count)) (scopeTooLarge (r .header .file) start end ∷ []) (r .header) (is .0), f))
 
-    pub room-finish : scopeFits (w .file) start end ≡ true → intoRoom [] w room ≡ finishing r start end room
+    room-finish : scopeFits (w .file) start end ≡ true → intoRoom [] w room ≡ finishing r start end room
     unfolding finishing intoRoom
     room-finish s =
         let ts = pairTests (r .header) (r .count) in
@@ -107,6 +105,16 @@ module _ (r : ReservedNak) (start end room : ℕ) where
         let a : accepted k ≡ firstOf (ts ++ us) k = rw (passed-on ts us k (is .0), f) in
         ap (λ (x : PduHeader). firstOf (noRoom room x ∷ []) (record { header = x; length = pduLength x })) (is .1)
         ∙ sym (passed-on (ts ++ us) (noRoom room k ∷ []) _ (passed (ts ++ us) k k a .0))
+
+    pub no-finish : (ns : List ℕ) → scopeFits (w .file) start end ≡ true → told ns ≡ firstOf (noRoom room w ∷ []) (pduLength w) → told ns ≡ finishing r start end room
+    unfolding intoRoom
+    no-finish ns s d = refused-on ns (noRoom room w ∷ []) [] _ _ d ∙ room-finish s
+
+    pub can-finish : (n : ℕ) → scopeFits (w .file) start end ≡ true → accepted n ≡ firstOf (noRoom room w ∷ []) (pduLength w) → accepted (record { header = w; length = n }) ≡ finishing r start end room
+    unfolding intoRoom
+    can-finish n s d =
+        let p = passed (noRoom room w ∷ []) n (pduLength w) d in
+        ap (λ (m : ℕ). accepted (record { header = w; length = m })) (p .1) ∙ sym (all-passed (noRoom room w ∷ []) (record { header = w; length = pduLength w }) (p .0)) ∙ room-finish s
 
 -- what can be finished could be written, with as many pairs lent
 pub finish-writes : (r : ReservedNak) (start end room : ℕ) (w : NakWritten) → accepted w ≡ finishing r start end room

@@ -129,12 +129,11 @@ module _ (file : LargeFileFlag) (h : PduHeader) (start end count : ℕ) where
 
 -- ---- room
 
-pub no-room : (h : PduHeader) (room p : ℕ) → p ≡ pduLength h → room < p → told (11 ∷ room ∷ p ∷ []) ≡ intoRoom [] h room
-unfolding told intoRoom
+pub no-room : (h : PduHeader) (room p : ℕ) → p ≡ pduLength h → room < p → told (11 ∷ room ∷ p ∷ []) ≡ firstOf (noRoom room h ∷ []) (pduLength h)
+unfolding told
 no-room h room p e l = rw (← e, lt-ltb _ _ l)
 
-pub has-room : (h : PduHeader) (room p : ℕ) → p ≡ pduLength h → p ≤ room → accepted (record { header = h; length = p }) ≡ intoRoom [] h room
-unfolding intoRoom
+pub has-room : (h : PduHeader) (room p : ℕ) → p ≡ pduLength h → p ≤ room → accepted p ≡ firstOf (noRoom room h ∷ []) (pduLength h)
 has-room h room p e l = rw (← e, le-ltb _ _ l)
 
 module _ (file : LargeFileFlag) (h : PduHeader) (start end count room : ℕ) where
@@ -148,20 +147,13 @@ module _ (file : LargeFileFlag) (h : PduHeader) (start end count room : ℕ) whe
   unfolding writingLength
   refused-length ns e = refused-on ns (nakTests file h start end count) _ _ _ e
 
-  module _ (n : ℕ) (e : accepted n ≡ firstOf (nakTests file h start end count) (count / 2)) (k : PduHeader) (pk : k ≡ filled file n h) (p : ℕ) (pp : p ≡ pduLength k) where
-    length-is-p : p ≡ pduLength filled-h
-    length-is-p = pp ∙ ap pduLength (pk ∙ ap (λ (m : ℕ). filled file m h) (passed (nakTests file h start end count) n (count / 2) e .1))
-
-    room-decides : firstOf all-tests (pduLength filled-h) ≡ firstOf (noRoom room filled-h ∷ []) (pduLength filled-h)
-    room-decides = passed-on (nakTests file h start end count) (noRoom room filled-h ∷ []) (pduLength filled-h) (passed (nakTests file h start end count) n (count / 2) e .0)
-
-    pub length-short : room < p → told (11 ∷ room ∷ p ∷ []) ≡ writingLength file h start end count room
-    unfolding told writingLength
-    length-short l = rw (room-decides, ← length-is-p, lt-ltb _ _ l)
-
-    pub length-fits : p ≤ room → accepted p ≡ writingLength file h start end count room
-    unfolding writingLength
-    length-fits l = rw (room-decides, ← length-is-p, le-ltb _ _ l)
+  pub room-decides : (n : ℕ) (k : PduHeader) → accepted n ≡ firstOf (nakTests file h start end count) (count / 2) → k ≡ filled file n h
+      → firstOf (noRoom room k ∷ []) (pduLength k) ≡ writingLength file h start end count room
+  unfolding writingLength
+  room-decides n k e pk =
+      let p = passed (nakTests file h start end count) n (count / 2) e in
+      ap (λ (x : PduHeader). firstOf (noRoom room x ∷ []) (pduLength x)) (pk ∙ ap (λ (m : ℕ). filled file m h) (p .1))
+      ∙ sym (passed-on (nakTests file h start end count) (noRoom room filled-h ∷ []) (pduLength filled-h) (p .0))
 
   pub into-room : (w : PduHeader) → accepted w ≡ judgingNak file h start end count → intoRoom [] w room ≡ writingNak file h start end count room
   unfolding judgingNak writingNak intoRoom

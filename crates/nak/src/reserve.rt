@@ -7,9 +7,11 @@ ghost use Rattle.nak.specs.Writing.{writeAnswer};
 ghost use Rattle.nak.specs.Reserving.{reserveAnswer, judgingPairs, placed, reserving, finishing, finishedMemory};
 use crate::offset_width;
 use crate::write;
+use crate::write::NakWritten;
 use crate::write::WriteResult;
 use fields::Refusal;
 use header::HeaderResult;
+use header::LengthResult;
 use header::PduHeader;
 use header::verify;
 
@@ -82,7 +84,11 @@ fn finishable(reserved: ReservedNak, start: u64, end: u64, room: usize) -> Write
             if !write::scope_fits(file, start, end) {
                 return WriteResult::Refused(Refusal::InvalidStartOrEndOfScope { start, end });
             }
-            write::with_room(header, room)
+            let answer = write::with_room(header, room);
+            match answer {
+                LengthResult::Refused(refusal) => WriteResult::Refused(refusal),
+                LengthResult::Length(length) => WriteResult::Written(NakWritten { header, length }),
+            }
         }
     }
 }
@@ -98,8 +104,8 @@ impl ReservedNak {
             HeaderResult::Header(header) => {
                 let room = write::with_room(header, buf.len());
                 match room {
-                    WriteResult::Refused(refusal) => ReserveResult::Refused(refusal),
-                    WriteResult::Written(_) => ReserveResult::Reserved(place(header, count)),
+                    LengthResult::Refused(refusal) => ReserveResult::Refused(refusal),
+                    LengthResult::Length(_) => ReserveResult::Reserved(place(header, count)),
                 }
             }
         }

@@ -1,17 +1,18 @@
 // Writing a NAK (the Rust's `NakPduCreator`): with no list, a list of 32-bit numbers, or a list of 64-bit numbers, start and end by turns.
 ghost use mathlib.Core.Path.{_≡_};
 ghost use mathlib.Core.Bool.{true};
-ghost use mathlib.Core.List.{[]};
+ghost use mathlib.Core.List.{[], _∷_};
 ghost use Prim.Native.Nat.{_+_, _*_, _/_, _≤_};
 ghost use lib.ListN.{length};
 ghost use lib.Seq.{sets};
 ghost use Rattle.fields.proofs.Judging.{Passed};
 ghost use Rattle.fields.specs.Answer.{firstOf};
 ghost use Rattle.header.specs.Answers.{headerAnswer, lengthAnswer};
+ghost use Rattle.header.specs.Header.{pduLength};
 ghost use Rattle.header.specs.Judging.{recordTests};
 ghost use Rattle.nak.specs.Nak.{offsetWidth, areaStart};
 ghost use Rattle.nak.specs.Counting.{countAnswer};
-ghost use Rattle.nak.specs.Writing.{writeAnswer, numbersBytes, startBytes, dataLength, mostPairs, filled, scopeFits, nakTests, judgingNak, intoRoom, writingNak, nakMemory};
+ghost use Rattle.nak.specs.Writing.{writeAnswer, numbersBytes, startBytes, dataLength, mostPairs, filled, scopeFits, nakTests, noRoom, judgingNak, writingNak, nakMemory};
 ghost use Rattle.nak.specs.Within.{writingLength};
 use crate::count::CountResult;
 use crate::offset_width;
@@ -132,18 +133,18 @@ pub(crate) fn judge_nak(
     }
 }
 
-// Room for the whole PDU of a judged header.
-pub(crate) fn with_room(header: PduHeader, room: usize) -> WriteResult
-    ensures { λ r. ⌜ writeAnswer r ≡ intoRoom [] header room ⌝ }
+// Room for the whole PDU of a judged header: its length.
+pub(crate) fn with_room(header: PduHeader, room: usize) -> LengthResult
+    ensures { λ r. ⌜ lengthAnswer r ≡ firstOf (noRoom room header ∷ []) (pduLength header) ⌝ }
 {
     let length = header.pdu_len();
     if room < length {
-        return WriteResult::Refused(Refusal::ToSliceTooSmall {
+        return LengthResult::Refused(Refusal::ToSliceTooSmall {
             found: room,
             expected: length,
         });
     }
-    WriteResult::Written(NakWritten { header, length })
+    LengthResult::Length(length)
 }
 
 // The writer's judgement: the bytes that will be written. As above, no header is handed back.
@@ -160,16 +161,7 @@ fn writable(
     let judged = judge_count(header, file, start, end, count);
     match judged {
         CountResult::Refused(refusal) => LengthResult::Refused(refusal),
-        CountResult::Count(pairs) => {
-            let length = fill(header, file, pairs).pdu_len();
-            if room < length {
-                return LengthResult::Refused(Refusal::ToSliceTooSmall {
-                    found: room,
-                    expected: length,
-                });
-            }
-            LengthResult::Length(length)
-        }
+        CountResult::Count(pairs) => with_room(fill(header, file, pairs), room),
     }
 }
 

@@ -2,7 +2,7 @@
 -- Assumes nothing.
 use mathlib.Core.Path.{sym, ap, _∙_}
 use Rattle.nak.specs.Counting.{countAnswer}
-use Rattle.nak.proofs.Writing.{count-fits, refused-length, length-short, length-fits}
+use Rattle.nak.proofs.Writing.{count-fits, refused-length, room-decides}
 use borrow.Author.Needs.{needs}
 use Rattle.nak.proofs.write.writable.Statement.{statement}
 use Rattle.nak.proofs.write.writable.Tie as tie
@@ -19,19 +19,14 @@ enum-known-judged-2 c = search needs
 fill-requires : tie.Need-fill-requires
 fill-requires c κs = count-fits _ _ _ _ _ _ (ap countAnswer (sym (c .before .judged2 .given .1)) ∙ c .before .before .before .judge-count .ensures)
 
-pdu-len-requires : tie.Need-pdu-len-requires
-pdu-len-requires c κs = search needs
+with-room-requires : tie.Need-with-room-requires
+with-room-requires c κs = search needs
 
 returns : tie.Need-returns
-returns c =
-    length-short _ _ _ _ _ _ _ (ap countAnswer (sym (c .before .before .before .before .judged2 .given .1)) ∙ c .before .before .before .before .before .before .judge-count .ensures) _ (c .before .before .fill .ensures) _ (c .before .pdu-len .ensures .0) (c .if1 .taken)
+returns c = refused-length _ _ _ _ _ _ _ (ap countAnswer (sym (c .before .judged .given .1)) ∙ c .before .before .before .judge-count .ensures)
 
 returns-2 : tie.Need-returns-2
-returns-2 c = refused-length _ _ _ _ _ _ _ (ap countAnswer (sym (c .before .judged .given .1)) ∙ c .before .before .before .judge-count .ensures)
-
-returns-3 : tie.Need-returns-3
-returns-3 c =
-    length-fits _ _ _ _ _ _ _ (ap countAnswer (sym (c .before .before .before .before .judged2 .given .1)) ∙ c .before .before .before .before .before .before .judge-count .ensures) _ (c .before .before .fill .ensures) _ (c .before .pdu-len .ensures .0) (c .if1 .left)
+returns-2 c = c .with-room .ensures ∙ room-decides _ _ _ _ _ _ _ _ (ap countAnswer (sym (c .before .before .before .judged2 .given .1)) ∙ c .before .before .before .before .before .judge-count .ensures) (c .before .fill .ensures)
 
 pub writable-spec : {M : Type 1} → statement M
 writable-spec =
@@ -41,7 +36,6 @@ writable-spec =
     enum-known-judged
     enum-known-judged-2
     fill-requires
-    pdu-len-requires
+    with-room-requires
     returns
-    returns-2
-    returns-3)
+    returns-2)

@@ -1,8 +1,7 @@
 -- `nak::reserve::ReservedNak::new` meets its contract: the judgement's refusal, no room, or the place of the requests.
 -- Assumes nothing.
 use mathlib.Core.Path.{sym, ap, _∙_}
-use Rattle.header.specs.Answers.{headerAnswer}
-use Rattle.nak.specs.Writing.{writeAnswer}
+use Rattle.header.specs.Answers.{headerAnswer, lengthAnswer}
 use Rattle.nak.proofs.Reserving.{refused-reserve, no-reserve, reserved-is}
 use borrow.Author.Needs.{needs}
 use Rattle.nak.proofs.reserve.ReservedNak.new.Statement.{statement}
@@ -33,10 +32,10 @@ returns : tie.Need-returns
 returns c = refused-reserve _ _ _ _ (ap headerAnswer (sym (c .before .judged .given .1)) ∙ c .before .before .before .judge-pairs .ensures)
 
 returns-2 : tie.Need-returns-2
-returns-2 c = no-reserve _ _ _ _ (ap headerAnswer (sym (c .before .before .before .before .before .judged2 .given .1)) ∙ c .before .before .before .before .before .before .before .judge-pairs .ensures) _ (ap writeAnswer (sym (c .before .room .given .1)) ∙ c .before .before .before .with-room .ensures)
+returns-2 c = no-reserve _ _ _ _ (ap headerAnswer (sym (c .before .before .before .before .before .judged2 .given .1)) ∙ c .before .before .before .before .before .before .before .judge-pairs .ensures) _ (ap lengthAnswer (sym (c .before .room .given .1)) ∙ c .before .before .before .with-room .ensures)
 
 returns-3 : tie.Need-returns-3
-returns-3 c = reserved-is _ _ _ _ (ap headerAnswer (sym (c .before .before .before .before .before .judged2 .given .1)) ∙ c .before .before .before .before .before .before .before .judge-pairs .ensures) _ _ (ap writeAnswer (sym (c .before .enum-told .given .1)) ∙ c .before .before .before .with-room .ensures) (c .place .ensures)
+returns-3 c = reserved-is _ _ _ _ (ap headerAnswer (sym (c .before .before .before .before .before .judged2 .given .1)) ∙ c .before .before .before .before .before .before .before .judge-pairs .ensures) _ _ (ap lengthAnswer (sym (c .before .enum-told .given .1)) ∙ c .before .before .before .with-room .ensures) (c .place .ensures)
 
 pub new-spec : {M : Type 1} → statement M
 new-spec =
