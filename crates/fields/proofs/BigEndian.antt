@@ -2,9 +2,9 @@
 -- Assumes nothing.
 use mathlib.Core.Path.{_≡_, refl, sym, ap, ap₂, _∙_}
 use mathlib.Core.Bool.{Bool, true, false, _&&_, and-false}
-use mathlib.Core.List.{List, [], _∷_, _++_, append-assoc}
+use mathlib.Core.List.{List, [], _∷_, _++_, append-assoc, append-nil}
 use Prim.Native.Nat.{ℕ, zero, suc, _+_, _-_, _*_, _/_, _%_, _^_, _<_, _≤_}
-use native.Mathlib.Nat.{div-add-mod', pow-suc, pow-le-pow-right, div-lt-iff-lt-mul, add-suc, suc-add, add-zero, zero-add, sub-zero, lt-of-not-le, lt-of-lt-of-le}
+use native.Mathlib.Nat.{mul-assoc, div-add-mod', pow-suc, pow-le-pow-right, div-lt-iff-lt-mul, add-suc, suc-add, add-zero, zero-add, sub-zero, lt-of-not-le, lt-of-lt-of-le}
 use native.Mathlib.Decide.{decLe}
 use native.Mathlib.Numerals.{add-one}
 use native.Mathlib.Omega.{arith}
@@ -24,6 +24,21 @@ pub be-length : (w v : ℕ) → length (beBytes w v) ≡ w
 unfolding beBytes
 be-length zero v = refl
 be-length (suc w) v = length-append (beBytes w (v / 256)) (v % 256 ∷ []) ∙ add-one _ ∙ ap suc (be-length w (v / 256))
+
+-- two numbers side by side are one
+pub be-beside : (m n a b : ℕ) → b < 256 ^ n → beBytes (n + m) (a * 256 ^ n + b) ≡ beBytes m a ++ beBytes n b
+unfolding beBytes
+be-beside m zero a b h =
+    let z : b ≡ 0 = lt-one h in
+    let e : a * 1 + b ≡ a = omega arith in
+    rw (e, zero-add, append-nil)
+be-beside m (suc n) a b h =
+    let k : b < 256 ^ n * 256 = rw pow-suc at h in
+    let x = a * 256 ^ n in
+    let e : a * 256 ^ suc n ≡ x * 256 = rw (pow-suc, mul-assoc) in
+    let q : (x * 256 + b) / 256 ≡ x + b / 256 = omega arith in
+    let r : (x * 256 + b) % 256 ≡ b % 256 = omega arith in
+    rw (e, suc-add, q, r, be-beside m n a (b / 256) (div-lt-iff-lt-mul (omega arith) .1 k), append-assoc)
 
 be-append : (v : ℕ) (xs ys : List ℕ) → beFrom v (xs ++ ys) ≡ beFrom (beFrom v xs) ys
 unfolding beFrom

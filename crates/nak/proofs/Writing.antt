@@ -1,12 +1,13 @@
 -- Writing a NAK: its judgement at each exit, what an accepted one has, and the stores of its bytes. Once for both widths.
 -- Assumes nothing.
-use Prim.Native.Nat.{ℕ, _+_, _*_, _/_, _%_, _^_, _≤_, _<_}
+use Prim.Native.Nat.{ℕ, suc, _+_, _*_, _/_, _%_, _^_, _≤_, _<_}
 use mathlib.Core.Path.{_≡_, refl, sym, ap, ap₂, _∙_}
 use mathlib.Core.Bool.{Bool, true, false, _&&_}
-use mathlib.Core.List.{List, [], _∷_, _++_, append-nil}
+use mathlib.Core.List.{List, [], _∷_, _++_, append-nil, append-assoc}
 use native.Mathlib.Nat.{zero-add, div-add-mod', mul-le-mul-left}
 use native.Mathlib.Numerals.{add-one}
 use native.Mathlib.Omega.{arith}
+use lib.Arith.{digits-lt, digits-div, digits-mod}
 use lib.Dec.{eqb, lit<}
 use lib.ListN.{length, getD, take, drop, length-append, drop-of-length-le}
 use lib.Seq.{sets, sets-eq, length-sets, take-at, drop-cons}
@@ -15,7 +16,7 @@ use Rattle.fields.specs.Width.{fitsWidth}
 use Rattle.fields.specs.BigEndian.{beBytes, bePut}
 use Rattle.fields.specs.Answer.{Answer, accepted, told, firstOf, leaves, Test}
 use Rattle.fields.proofs.Width.{fits-lt}
-use Rattle.fields.proofs.BigEndian.{be-length, put-sets, sets-append, then-sets}
+use Rattle.fields.proofs.BigEndian.{be-length, be-beside, put-sets, sets-append, then-sets}
 use Rattle.fields.proofs.Judging.{Passed, passed, all-passed, passed-first, passed-last, passed-on, refused-on, told-leaves}
 use Rattle.header.specs.declared.PduHeader.{PduHeader}
 use Rattle.header.specs.declared.flags.Direction.the-variants.{TowardsSender}
@@ -228,6 +229,35 @@ number-turn w at i v l m ns small room h q f p =
     let e : at + w * (i + 1) ≡ at + w * i + length (beBytes w (getD ns i 0)) = omega (arith, be-length w (getD ns i 0)) in
     let p′ : m ≡ sets l (at + w * i) (beBytes w (getD ns i 0)) = p ∙ put-sets l (at + w * i) w v small (omega arith) f ∙ ap (λ (x : ℕ). sets l (at + w * i) (beBytes w x)) q in
     rw (p′, drop-cons ns i 0 h, sets-append, e, add-one)
+
+-- two numbers whose halves are exchanged
+pub exchanged-pair : (n x y two v : ℕ) → x < n → y < n → two ≡ y * n + x → v ≡ two % n * n + two / n → (v ≡ x * n + y) × (v < n * n)
+exchanged-pair n x y two v h k e p =
+    let low : two % n ≡ x = ap (λ (t : ℕ). t % n) e ∙ digits-mod y h in
+    let high : two / n ≡ y = ap (λ (t : ℕ). t / n) e ∙ digits-div y h in
+    let is : v ≡ x * n + y = p ∙ ap₂ (λ (a b : ℕ). a * n + b) low high in
+    (is, rw is (digits-lt h k))
+
+-- the same of two numbers, which are stored as one
+pub pair-turn : (w at i j k a b v : ℕ) (l m ns : List ℕ) → w + w ≤ 8 → at + w * length ns ≤ length l → suc i < length ns → j ≡ suc (suc i) → k ≡ at + w * i → a ≡ getD ns i 0 → b ≡ getD ns (suc i) 0
+    → b < 256 ^ w → v ≡ a * 256 ^ w + b → v < 256 ^ (w + w) → m ≡ bePut l k (w + w) v
+    → sets m (at + w * j) (numbersBytes w (drop j ns)) ≡ sets l (at + w * i) (numbersBytes w (drop i ns))
+unfolding numbersBytes
+pair-turn w at i j k a b v l m ns small room h ej ek qa qb fb qv fv p =
+    let most : w * j ≤ w * length ns = mul-le-mul-left w (omega arith) in
+    let x = beBytes w (getD ns i 0) in
+    let y = beBytes w (getD ns (suc i) 0) in
+    let rest = numbersBytes w (drop (suc (suc i)) ns) in
+    let both : beBytes (w + w) v ≡ x ++ y = ap (beBytes (w + w)) qv ∙ be-beside w w a b fb ∙ ap₂ (λ (c d : ℕ). beBytes w c ++ beBytes w d) qa qb in
+    let twice : w * j ≡ w * i + (w + w) = ap (λ (n : ℕ). w * n) ej ∙ omega arith in
+    let stored : m ≡ sets l (at + w * i) (x ++ y) = p ∙ put-sets l k (w + w) v small (omega arith) fv ∙ ap₂ (λ (n : ℕ) (b : List ℕ). sets l n b) ek both in
+    let e : at + w * j ≡ at + w * i + length (x ++ y) = simp (length-append, be-length) (omega arith) in
+    let d : drop i ns ≡ getD ns i 0 ∷ getD ns (suc i) 0 ∷ drop (suc (suc i)) ns = drop-cons ns i 0 (omega arith) ∙ ap (λ (t : List ℕ). getD ns i 0 ∷ t) (drop-cons ns (suc i) 0 h) in
+    ap (λ (n : ℕ). sets m (at + w * j) (numbersBytes w (drop n ns))) ej
+    ∙ ap₂ (λ (b : List ℕ) (n : ℕ). sets b n rest) stored e
+    ∙ sym (sets-append (x ++ y) rest l (at + w * i))
+    ∙ ap (sets l (at + w * i)) (append-assoc x y rest)
+    ∙ ap (λ (t : List ℕ). sets l (at + w * i) (numbersBytes w t)) (sym d)
 
 pub numbers-done : (w at i : ℕ) (l m ns : List ℕ) → length ns ≤ i → sets l (at + w * i) (numbersBytes w (drop i ns)) ≡ m → l ≡ m
 unfolding numbersBytes

@@ -2,8 +2,8 @@
 ghost use mathlib.Core.Path.{_≡_};
 ghost use mathlib.Core.Bool.{true};
 ghost use mathlib.Core.List.{[], _∷_};
-ghost use Prim.Native.Nat.{_+_, _*_, _/_, _≤_};
-ghost use lib.ListN.{length};
+ghost use Prim.Native.Nat.{_+_, _*_, _/_, _%_, _^_, _≤_, _<_};
+ghost use lib.ListN.{length, getD};
 ghost use lib.Seq.{sets};
 ghost use Rattle.fields.proofs.Judging.{Passed};
 ghost use Rattle.fields.specs.Answer.{firstOf};
@@ -182,16 +182,36 @@ pub(crate) fn put_start(buf: &mut [u8], header: PduHeader, start: u64, end: u64)
     second + width
 }
 
-// Normal numbers, one behind the other from `at`.
+// The number at i, and above it the next: so they stand in the memory of a little-endian machine.
+fn two_at(numbers: &[u32], i: usize) -> u64
+    requires { ⌜ i + 1 < length (now numbers) ⌝ }
+    ensures { λ r. ⌜ r ≡ getD (now (numbers .entry)) (i + 1) 0 * 256 ^ 4 + getD (now (numbers .entry)) i 0 ⌝ }
+{
+    let low = numbers[i] as u64;
+    let high = numbers[i + 1] as u64;
+    high * 4294967296 + low
+}
+
+// The two halves, each in the other's place.
+fn exchanged(two: u64) -> u64
+    ensures { λ r. ⌜ r ≡ two % 256 ^ 4 * 256 ^ 4 + two / 256 ^ 4 ⌝ }
+{
+    two % 4294967296 * 4294967296 + two / 4294967296
+}
+
+// Normal numbers, one behind the other from `at`, two at a time. A pair is put together in two steps, each a function, since then the
+// compiler makes one load, one exchange and one store of it; put together at once it is taken apart into bytes again.
 fn put_normal(buf: &mut [u8], at: usize, numbers: &[u32])
-    requires { ⌜ at + 4 * length (now numbers) ≤ length (now buf) ⌝ }
+    requires { ⌜ (at + 4 * length (now numbers) ≤ length (now buf)) × (length (now numbers) ≡ 2 * (length (now numbers) / 2)) ⌝ }
     ensures { λ _. ⌜ now (buf .exit) ≡ sets (now (buf .entry)) at (numbersBytes 4 (now (numbers .entry))) ⌝ }
 {
+    let pairs = numbers.len() / 2;
     let mut i = 0;
-    while i < numbers.len() {
-        let from = at + 4 * i;
-        let to = from + 4;
-        be::write_be(&mut buf[from..to], 0, 4, numbers[i] as u64);
+    while i < pairs {
+        let from = at + 8 * i;
+        let to = from + 8;
+        let pair = exchanged(two_at(numbers, 2 * i));
+        be::write_be(&mut buf[from..to], 0, 8, pair);
         i += 1;
     }
 }
