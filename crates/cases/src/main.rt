@@ -146,10 +146,11 @@ fn header(file: LargeFileFlag) -> PduHeader {
         file,
         length: 0,
         control: SegmentationControl::NoRecordBoundaryPreservation,
+        width: 1,
         metadata: SegmentMetadataFlag::NotPresent,
-        source: EntityId(UnsignedByteField { width: 1, value: 1 }),
+        source: EntityId(1),
         sequence: TransactionSeqNum(UnsignedByteField { width: 1, value: 2 }),
-        destination: EntityId(UnsignedByteField { width: 1, value: 3 }),
+        destination: EntityId(3),
     }
 }
 

@@ -66,7 +66,7 @@ module _ {A : Type 0} (numbers : A → List ℕ) where
 -- the header's numbers, bit by bit
 pub header-numbers : (h : PduHeader) (rest : List ℕ) (t d m c f g s : ℕ) → t ≡ pduTypeBit (h .kind) → d ≡ directionBit (h .direction) → m ≡ modeBit (h .mode) → c ≡ crcBit (h .crc)
     → f ≡ fileBit (h .file) → g ≡ controlBit (h .control) → s ≡ metadataBit (h .metadata)
-    → _≡_ {A = List ℕ} (t ∷ d ∷ m ∷ c ∷ f ∷ g ∷ s ∷ h .length ∷ h .source .0 .width ∷ h .source .0 .value ∷ h .sequence .0 .width ∷ h .sequence .0 .value ∷ h .destination .0 .width ∷ h .destination .0 .value ∷ rest) (headerNumbers h ++ rest)
+    → _≡_ {A = List ℕ} (t ∷ d ∷ m ∷ c ∷ f ∷ g ∷ s ∷ h .length ∷ h .width ∷ h .source .0 ∷ h .sequence .0 .width ∷ h .sequence .0 .value ∷ h .width ∷ h .destination .0 ∷ rest) (headerNumbers h ++ rest)
 header-numbers h rest t d m c f g s et ed em ec ef eg es = rw (et, ed, em, ec, ef, eg, es)
 
 -- a header that was read is shown with its length

@@ -35,7 +35,7 @@ shown numbers o = padded answerSize (answerNumbers numbers o)
 unfoldable pub refusalShown : Refusal → List ℕ
 refusalShown r = padded answerSize (paper r)
 
--- a header as 14 numbers
+-- a header as 14 numbers, each identifier with its width
 abbrev pub headerNumbers : PduHeader → List ℕ
 headerNumbers h =
     pduTypeBit (h .kind)
@@ -46,12 +46,12 @@ headerNumbers h =
     ∷ controlBit (h .control)
     ∷ metadataBit (h .metadata)
     ∷ h .length
-    ∷ h .source .0 .width
-    ∷ h .source .0 .value
+    ∷ h .width
+    ∷ h .source .0
     ∷ h .sequence .0 .width
     ∷ h .sequence .0 .value
-    ∷ h .destination .0 .width
-    ∷ h .destination .0 .value
+    ∷ h .width
+    ∷ h .destination .0
     ∷ []
 
 -- a length or a count

@@ -2,12 +2,14 @@
 ghost use mathlib.Core.Path.{_≡_};
 ghost use lib.ListN.{length};
 ghost use Rattle.fields.specs.Checksum.{checksumOf};
+ghost use Rattle.fields.specs.Answer.{andThen};
 ghost use Rattle.fields.specs.Staged.{run};
-ghost use Rattle.header.specs.Judging.{building};
+ghost use Rattle.header.specs.Answers.{headerAnswer};
+ghost use Rattle.header.specs.Judging.{judging};
 ghost use Rattle.header.specs.Reading.{readingHeader};
 ghost use Rattle.header.specs.Verifying.{verifying};
 ghost use Rattle.header.specs.Writing.{writingHeader, headerMemory};
-ghost use Rattle.cfdp_nak.specs.Given.{headerFrom};
+ghost use Rattle.cfdp_nak.specs.Given.{headerFrom, leftBy};
 ghost use Rattle.cfdp_nak.specs.Shown.{shown, headerNumbers, oneNumber, readHeaderNumbers};
 use crate::header_from;
 use crate::show_header;
@@ -38,6 +40,15 @@ pub extern "C" fn cfdp_header_read(bytes: &[u8], answer: &mut [u64; 20])
     }
 }
 
+fn show_built(result: HeaderResult, answer: &mut [u64; 20])
+    ensures { λ _. ⌜ now (answer .exit) ≡ shown headerNumbers (headerAnswer result) ⌝ }
+{
+    match result {
+        HeaderResult::Refused(refusal) => show_refusal(refusal, answer),
+        HeaderResult::Header(header) => show_header(header, 0, 0, 0, 0, 0, answer),
+    }
+}
+
 #[no_mangle]
 pub extern "C" fn cfdp_header_build(
     shape: &[u8; 10],
@@ -45,13 +56,15 @@ pub extern "C" fn cfdp_header_build(
     ids: &[u64; 3],
     answer: &mut [u64; 20],
 )
-    ensures { λ _. ⌜ now (answer .exit) ≡ shown headerNumbers (building (headerFrom (now (shape .entry)) «data_length» (now (ids .entry)))) ⌝ }
+    ensures { λ _. ⌜ now (answer .exit) ≡ shown headerNumbers (andThen (headerFrom (now (shape .entry)) «data_length» (now (ids .entry))) judging) ⌝ }
 {
-    let header = header_from(shape, data_length, ids);
-    let built = header.judged();
-    match built {
+    let joined = header_from(shape, data_length, ids);
+    match joined {
         HeaderResult::Refused(refusal) => show_refusal(refusal, answer),
-        HeaderResult::Header(header) => show_header(header, 0, 0, 0, 0, 0, answer),
+        HeaderResult::Header(header) => {
+            let built = header.judged();
+            show_built(built, answer)
+        }
     }
 }
 
@@ -63,12 +76,17 @@ pub extern "C" fn cfdp_header_write(
     buf: &mut [u8],
     answer: &mut [u64; 20],
 )
-    ensures answered { λ _. ⌜ now (answer .exit) ≡ shown oneNumber (writingHeader (headerFrom (now (shape .entry)) «data_length» (now (ids .entry))) (length (now (buf .entry)))) ⌝ }
-    ensures stored { λ _. ⌜ now (buf .exit) ≡ headerMemory (headerFrom (now (shape .entry)) «data_length» (now (ids .entry))) (now (buf .entry)) ⌝ }
+    ensures answered { λ _. ⌜ now (answer .exit) ≡ shown oneNumber (andThen (headerFrom (now (shape .entry)) «data_length» (now (ids .entry))) (λ h. writingHeader h (length (now (buf .entry))))) ⌝ }
+    ensures stored { λ _. ⌜ now (buf .exit) ≡ leftBy (headerFrom (now (shape .entry)) «data_length» (now (ids .entry))) (λ h. headerMemory h (now (buf .entry))) (now (buf .entry)) ⌝ }
 {
-    let header = header_from(shape, data_length, ids);
-    let written = header.write_to_slice(buf);
-    show_length(written, answer);
+    let joined = header_from(shape, data_length, ids);
+    match joined {
+        HeaderResult::Refused(refusal) => show_refusal(refusal, answer),
+        HeaderResult::Header(header) => {
+            let written = header.write_to_slice(buf);
+            show_length(written, answer)
+        }
+    }
 }
 
 #[no_mangle]
@@ -79,9 +97,14 @@ pub extern "C" fn cfdp_header_verify(
     bytes: &[u8],
     answer: &mut [u64; 20],
 )
-    ensures { λ _. ⌜ now (answer .exit) ≡ shown oneNumber (run (verifying (headerFrom (now (shape .entry)) «data_length» (now (ids .entry)))) (now (bytes .entry))) ⌝ }
+    ensures { λ _. ⌜ now (answer .exit) ≡ shown oneNumber (andThen (headerFrom (now (shape .entry)) «data_length» (now (ids .entry))) (λ h. run (verifying h) (now (bytes .entry)))) ⌝ }
 {
-    let header = header_from(shape, data_length, ids);
-    let verified = header.verify_length_and_checksum(bytes);
-    show_length(verified, answer);
+    let joined = header_from(shape, data_length, ids);
+    match joined {
+        HeaderResult::Refused(refusal) => show_refusal(refusal, answer),
+        HeaderResult::Header(header) => {
+            let verified = header.verify_length_and_checksum(bytes);
+            show_length(verified, answer)
+        }
+    }
 }

@@ -2,16 +2,16 @@
 // numbers. Every value of every parameter has its answer. `include/cfdp_nak.h` declares them all.
 ghost use mathlib.Core.Path.{_≡_};
 ghost use mathlib.Core.List.{[], _∷_, _++_};
-ghost use Rattle.header.specs.Answers.{lengthAnswer};
+ghost use Rattle.header.specs.Answers.{headerAnswer, lengthAnswer};
 ghost use Rattle.nak.specs.Writing.{writeAnswer};
 ghost use Rattle.cfdp_nak.specs.Given.{headerFrom};
 ghost use Rattle.cfdp_nak.specs.Shown.{padded, answerSize, shown, refusalShown, headerNumbers, oneNumber, writtenNumbers};
-use fields::EntityId;
 use fields::Refusal;
 use fields::TransactionSeqNum;
 use fields::UnsignedByteField;
 use header::CrcFlag;
 use header::Direction;
+use header::HeaderResult;
 use header::LargeFileFlag;
 use header::LengthResult;
 use header::PduHeader;
@@ -27,9 +27,9 @@ pub mod read;
 pub mod reserve;
 pub mod write;
 
-// A header from its numbers; nothing of it is judged here.
-fn header_from(shape: &[u8; 10], length: u16, ids: &[u64; 3]) -> PduHeader
-    ensures { λ r. ⌜ r ≡ headerFrom (now (shape .entry)) length (now (ids .entry)) ⌝ }
+// A header from its numbers: 13 where the two identifiers' widths differ, and nothing else of it is judged here.
+fn header_from(shape: &[u8; 10], length: u16, ids: &[u64; 3]) -> HeaderResult
+    ensures { λ r. ⌜ headerAnswer r ≡ headerFrom (now (shape .entry)) length (now (ids .entry)) ⌝ }
 {
     let source = UnsignedByteField {
         width: shape[7],
@@ -43,19 +43,19 @@ fn header_from(shape: &[u8; 10], length: u16, ids: &[u64; 3]) -> PduHeader
         width: shape[9],
         value: ids[2],
     };
-    PduHeader {
-        kind: PduType::from_bit(shape[0] != 0),
-        direction: Direction::from_bit(shape[1] != 0),
-        mode: TransmissionMode::from_bit(shape[2] != 0),
-        crc: CrcFlag::from_bit(shape[3] != 0),
-        file: LargeFileFlag::from_bit(shape[4] != 0),
+    PduHeader::from_fields(
+        PduType::from_bit(shape[0] != 0),
+        Direction::from_bit(shape[1] != 0),
+        TransmissionMode::from_bit(shape[2] != 0),
+        CrcFlag::from_bit(shape[3] != 0),
+        LargeFileFlag::from_bit(shape[4] != 0),
         length,
-        control: SegmentationControl::from_bit(shape[5] != 0),
-        metadata: SegmentMetadataFlag::from_bit(shape[6] != 0),
-        source: EntityId(source),
-        sequence: TransactionSeqNum(sequence),
-        destination: EntityId(destination),
-    }
+        SegmentationControl::from_bit(shape[5] != 0),
+        SegmentMetadataFlag::from_bit(shape[6] != 0),
+        source,
+        TransactionSeqNum(sequence),
+        destination,
+    )
 }
 
 // Up to three numbers, and zeros behind them.
@@ -93,9 +93,8 @@ fn show_header(header: PduHeader, a: u64, b: u64, c: u64, d: u64, e: u64, answer
     let file = header.file;
     let control = header.control;
     let metadata = header.metadata;
-    let source = header.source.0;
+    let width = header.width as u64;
     let sequence = header.sequence.0;
-    let destination = header.destination.0;
     let kind_bit = kind.bit() as u64;
     let direction_bit = direction.bit() as u64;
     let mode_bit = mode.bit() as u64;
@@ -113,12 +112,12 @@ fn show_header(header: PduHeader, a: u64, b: u64, c: u64, d: u64, e: u64, answer
         control_bit,
         metadata_bit,
         header.length as u64,
-        source.width as u64,
-        source.value,
+        width,
+        header.source.0,
         sequence.width as u64,
         sequence.value,
-        destination.width as u64,
-        destination.value,
+        width,
+        header.destination.0,
         a,
         b,
         c,

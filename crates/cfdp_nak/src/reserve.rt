@@ -1,28 +1,21 @@
 // Reserving room for pairs that the caller fills in, and finishing the NAK around them.
 ghost use mathlib.Core.Path.{_≡_};
 ghost use lib.ListN.{length};
-ghost use Rattle.nak.specs.Reserving.{reserving, finishing, finishedMemory};
-ghost use Rattle.cfdp_nak.specs.Given.{nakHeader, reservedFrom};
+ghost use Rattle.fields.specs.Answer.{andThen};
+ghost use Rattle.nak.specs.Reserving.{reserveAnswer, reserving, finishing, finishedMemory};
+ghost use Rattle.cfdp_nak.specs.Given.{nakHeader, reservedFrom, leftBy};
 ghost use Rattle.cfdp_nak.specs.Shown.{shown, reservedNumbers, writtenNumbers};
 use crate::header_from;
 use crate::show_header;
 use crate::show_refusal;
 use crate::show_written;
+use header::HeaderResult;
 use nak::reserve::ReserveResult;
 use nak::reserve::ReservedNak;
 
-#[no_mangle]
-pub extern "C" fn cfdp_nak_reserve(
-    shape: &[u8; 10],
-    ids: &[u64; 3],
-    pairs: usize,
-    buf: &[u8],
-    answer: &mut [u64; 20],
-)
-    ensures { λ _. ⌜ now (answer .exit) ≡ shown reservedNumbers (reserving (nakHeader (now (shape .entry)) (now (ids .entry))) pairs (length (now (buf .entry)))) ⌝ }
+fn show_reserved(result: ReserveResult, answer: &mut [u64; 20])
+    ensures { λ _. ⌜ now (answer .exit) ≡ shown reservedNumbers (reserveAnswer result) ⌝ }
 {
-    let header = header_from(shape, 0, ids);
-    let result = ReservedNak::new(header, pairs, buf);
     match result {
         ReserveResult::Refused(refusal) => show_refusal(refusal, answer),
         ReserveResult::Reserved(reserved) => {
@@ -32,6 +25,26 @@ pub extern "C" fn cfdp_nak_reserve(
             let stop = reserved.stop as u64;
             let length = header.pdu_len() as u64;
             show_header(header, count, area, stop, length, 0, answer)
+        }
+    }
+}
+
+#[no_mangle]
+pub extern "C" fn cfdp_nak_reserve(
+    shape: &[u8; 10],
+    ids: &[u64; 3],
+    pairs: usize,
+    buf: &[u8],
+    answer: &mut [u64; 20],
+)
+    ensures { λ _. ⌜ now (answer .exit) ≡ shown reservedNumbers (andThen (nakHeader (now (shape .entry)) (now (ids .entry))) (λ h. reserving h pairs (length (now (buf .entry))))) ⌝ }
+{
+    let joined = header_from(shape, 0, ids);
+    match joined {
+        HeaderResult::Refused(refusal) => show_refusal(refusal, answer),
+        HeaderResult::Header(header) => {
+            let result = ReservedNak::new(header, pairs, buf);
+            show_reserved(result, answer)
         }
     }
 }
@@ -47,16 +60,21 @@ pub extern "C" fn cfdp_nak_finish(
     buf: &mut [u8],
     answer: &mut [u64; 20],
 )
-    ensures answered { λ _. ⌜ now (answer .exit) ≡ shown writtenNumbers (finishing (reservedFrom (now (shape .entry)) (now (ids .entry)) pairs) start end (length (now (buf .entry)))) ⌝ }
-    ensures stored { λ _. ⌜ now (buf .exit) ≡ finishedMemory (reservedFrom (now (shape .entry)) (now (ids .entry)) pairs) start end (now (buf .entry)) ⌝ }
+    ensures answered { λ _. ⌜ now (answer .exit) ≡ shown writtenNumbers (andThen (nakHeader (now (shape .entry)) (now (ids .entry))) (λ h. finishing (reservedFrom h pairs) start end (length (now (buf .entry))))) ⌝ }
+    ensures stored { λ _. ⌜ now (buf .exit) ≡ leftBy (nakHeader (now (shape .entry)) (now (ids .entry))) (λ h. finishedMemory (reservedFrom h pairs) start end (now (buf .entry))) (now (buf .entry)) ⌝ }
 {
-    let header = header_from(shape, 0, ids);
-    let reserved = ReservedNak {
-        header,
-        count: pairs,
-        area: 0,
-        stop: 0,
-    };
-    let finished = reserved.finish(start, end, buf);
-    show_written(finished, answer);
+    let joined = header_from(shape, 0, ids);
+    match joined {
+        HeaderResult::Refused(refusal) => show_refusal(refusal, answer),
+        HeaderResult::Header(header) => {
+            let reserved = ReservedNak {
+                header,
+                count: pairs,
+                area: 0,
+                stop: 0,
+            };
+            let finished = reserved.finish(start, end, buf);
+            show_written(finished, answer)
+        }
+    }
 }

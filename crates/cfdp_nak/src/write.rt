@@ -2,14 +2,16 @@
 ghost use mathlib.Core.Path.{_≡_};
 ghost use mathlib.Core.List.{[]};
 ghost use lib.ListN.{length};
-ghost use Rattle.nak.specs.Counting.{mostRequests};
+ghost use Rattle.fields.specs.Answer.{andThen};
+ghost use Rattle.nak.specs.Counting.{countAnswer, mostRequests};
 ghost use Rattle.nak.specs.Writing.{writingNak, nakMemory};
-ghost use Rattle.cfdp_nak.specs.Given.{nakHeader};
+ghost use Rattle.cfdp_nak.specs.Given.{nakHeader, leftBy};
 ghost use Rattle.cfdp_nak.specs.Shown.{shown, oneNumber, writtenNumbers};
 use crate::header_from;
 use crate::show_number;
 use crate::show_refusal;
 use crate::show_written;
+use header::HeaderResult;
 use header::LargeFileFlag;
 use nak::count;
 use nak::count::CountResult;
@@ -24,12 +26,17 @@ pub extern "C" fn cfdp_nak_write(
     buf: &mut [u8],
     answer: &mut [u64; 20],
 )
-    ensures answered { λ _. ⌜ now (answer .exit) ≡ shown writtenNumbers (writingNak (nakHeader (now (shape .entry)) (now (ids .entry)) .file) (nakHeader (now (shape .entry)) (now (ids .entry))) start end 0 (length (now (buf .entry)))) ⌝ }
-    ensures stored { λ _. ⌜ now (buf .exit) ≡ nakMemory (nakHeader (now (shape .entry)) (now (ids .entry)) .file) (nakHeader (now (shape .entry)) (now (ids .entry))) start end [] (now (buf .entry)) ⌝ }
+    ensures answered { λ _. ⌜ now (answer .exit) ≡ shown writtenNumbers (andThen (nakHeader (now (shape .entry)) (now (ids .entry))) (λ h. writingNak (h .file) h start end 0 (length (now (buf .entry))))) ⌝ }
+    ensures stored { λ _. ⌜ now (buf .exit) ≡ leftBy (nakHeader (now (shape .entry)) (now (ids .entry))) (λ h. nakMemory (h .file) h start end [] (now (buf .entry))) (now (buf .entry)) ⌝ }
 {
-    let header = header_from(shape, 0, ids);
-    let written = write::write_no_segment_requests(header, start, end, buf);
-    show_written(written, answer);
+    let joined = header_from(shape, 0, ids);
+    match joined {
+        HeaderResult::Refused(refusal) => show_refusal(refusal, answer),
+        HeaderResult::Header(header) => {
+            let written = write::write_no_segment_requests(header, start, end, buf);
+            show_written(written, answer)
+        }
+    }
 }
 
 #[no_mangle]
@@ -42,12 +49,17 @@ pub extern "C" fn cfdp_nak_write_normal(
     buf: &mut [u8],
     answer: &mut [u64; 20],
 )
-    ensures answered { λ _. ⌜ now (answer .exit) ≡ shown writtenNumbers (writingNak LargeFileFlag.Normal (nakHeader (now (shape .entry)) (now (ids .entry))) start end (length (now (numbers .entry))) (length (now (buf .entry)))) ⌝ }
-    ensures stored { λ _. ⌜ now (buf .exit) ≡ nakMemory LargeFileFlag.Normal (nakHeader (now (shape .entry)) (now (ids .entry))) start end (now (numbers .entry)) (now (buf .entry)) ⌝ }
+    ensures answered { λ _. ⌜ now (answer .exit) ≡ shown writtenNumbers (andThen (nakHeader (now (shape .entry)) (now (ids .entry))) (λ h. writingNak LargeFileFlag.Normal h start end (length (now (numbers .entry))) (length (now (buf .entry))))) ⌝ }
+    ensures stored { λ _. ⌜ now (buf .exit) ≡ leftBy (nakHeader (now (shape .entry)) (now (ids .entry))) (λ h. nakMemory LargeFileFlag.Normal h start end (now (numbers .entry)) (now (buf .entry))) (now (buf .entry)) ⌝ }
 {
-    let header = header_from(shape, 0, ids);
-    let written = write::write_normal_file_size(header, start, end, numbers, buf);
-    show_written(written, answer);
+    let joined = header_from(shape, 0, ids);
+    match joined {
+        HeaderResult::Refused(refusal) => show_refusal(refusal, answer),
+        HeaderResult::Header(header) => {
+            let written = write::write_normal_file_size(header, start, end, numbers, buf);
+            show_written(written, answer)
+        }
+    }
 }
 
 #[no_mangle]
@@ -60,12 +72,26 @@ pub extern "C" fn cfdp_nak_write_large(
     buf: &mut [u8],
     answer: &mut [u64; 20],
 )
-    ensures answered { λ _. ⌜ now (answer .exit) ≡ shown writtenNumbers (writingNak LargeFileFlag.Large (nakHeader (now (shape .entry)) (now (ids .entry))) start end (length (now (numbers .entry))) (length (now (buf .entry)))) ⌝ }
-    ensures stored { λ _. ⌜ now (buf .exit) ≡ nakMemory LargeFileFlag.Large (nakHeader (now (shape .entry)) (now (ids .entry))) start end (now (numbers .entry)) (now (buf .entry)) ⌝ }
+    ensures answered { λ _. ⌜ now (answer .exit) ≡ shown writtenNumbers (andThen (nakHeader (now (shape .entry)) (now (ids .entry))) (λ h. writingNak LargeFileFlag.Large h start end (length (now (numbers .entry))) (length (now (buf .entry))))) ⌝ }
+    ensures stored { λ _. ⌜ now (buf .exit) ≡ leftBy (nakHeader (now (shape .entry)) (now (ids .entry))) (λ h. nakMemory LargeFileFlag.Large h start end (now (numbers .entry)) (now (buf .entry))) (now (buf .entry)) ⌝ }
 {
-    let header = header_from(shape, 0, ids);
-    let written = write::write_large_file_size(header, start, end, numbers, buf);
-    show_written(written, answer);
+    let joined = header_from(shape, 0, ids);
+    match joined {
+        HeaderResult::Refused(refusal) => show_refusal(refusal, answer),
+        HeaderResult::Header(header) => {
+            let written = write::write_large_file_size(header, start, end, numbers, buf);
+            show_written(written, answer)
+        }
+    }
+}
+
+fn show_count(result: CountResult, answer: &mut [u64; 20])
+    ensures { λ _. ⌜ now (answer .exit) ≡ shown oneNumber (countAnswer result) ⌝ }
+{
+    match result {
+        CountResult::Refused(refusal) => show_refusal(refusal, answer),
+        CountResult::Count(pairs) => show_number(pairs, answer),
+    }
 }
 
 #[no_mangle]
@@ -75,12 +101,14 @@ pub extern "C" fn cfdp_nak_most(
     packet: usize,
     answer: &mut [u64; 20],
 )
-    ensures { λ _. ⌜ now (answer .exit) ≡ shown oneNumber (mostRequests (nakHeader (now (shape .entry)) (now (ids .entry))) packet) ⌝ }
+    ensures { λ _. ⌜ now (answer .exit) ≡ shown oneNumber (andThen (nakHeader (now (shape .entry)) (now (ids .entry))) (λ h. mostRequests h packet)) ⌝ }
 {
-    let header = header_from(shape, 0, ids);
-    let most = count::calculate_max_segment_requests(packet, header);
-    match most {
-        CountResult::Refused(refusal) => show_refusal(refusal, answer),
-        CountResult::Count(pairs) => show_number(pairs, answer),
+    let joined = header_from(shape, 0, ids);
+    match joined {
+        HeaderResult::Refused(refusal) => show_refusal(refusal, answer),
+        HeaderResult::Header(header) => {
+            let most = count::calculate_max_segment_requests(packet, header);
+            show_count(most, answer)
+        }
     }
 }

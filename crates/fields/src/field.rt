@@ -1,5 +1,6 @@
 // A value with a width in bytes (the Rust's `util.rs`), and the two kinds of them that a header holds.
 ghost use mathlib.Core.Path.{_≡_};
+ghost use lib.Dec.{eqb};
 ghost use Rattle.fields.specs.Width.{isWidth, fitsField, sameValue};
 
 pub struct UnsignedByteField {
@@ -7,8 +8,8 @@ pub struct UnsignedByteField {
     pub value: u64,
 }
 
-// The identifier of an entity, source or destination.
-pub struct EntityId(pub UnsignedByteField);
+// The identifier of an entity, source or destination. A header keeps one width for both.
+pub struct EntityId(pub u64);
 
 // The sequence number of a transaction. It is another type than an identifier, so that neither is taken for the other.
 pub struct TransactionSeqNum(pub UnsignedByteField);
@@ -53,9 +54,9 @@ impl UnsignedByteField {
 
 impl EntityId {
     pub fn eq(self, other: EntityId) -> bool
-        ensures { λ r. ⌜ r ≡ sameValue (self .0) (other .0) ⌝ }
+        ensures { λ r. ⌜ r ≡ eqb (self .0) (other .0) ⌝ }
     {
-        self.0.value == other.0.value
+        self.0 == other.0
     }
 }
 

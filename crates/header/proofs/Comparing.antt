@@ -33,9 +33,9 @@ same-self h =
       eq-eqb (controlBit (h .control)) _ refl,
       eq-eqb (metadataBit (h .metadata)) _ refl,
       eq-eqb (h .length) _ refl,
-      eq-eqb (h .source .0 .value) _ refl,
+      eq-eqb (h .source .0) _ refl,
       eq-eqb (h .sequence .0 .value) _ refl,
-      eq-eqb (h .destination .0 .value) _ refl,
+      eq-eqb (h .destination .0) _ refl,
     )
 
 -- both of two are true

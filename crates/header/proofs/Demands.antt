@@ -26,7 +26,7 @@ use Rattle.header.specs.declared.LengthResult.{LengthResult}
 use Rattle.header.specs.declared.LengthResult.the-variants.{Length, Refused as NoLength}
 use Rattle.header.specs.Answers.{headerAnswer, lengthAnswer}
 use Rattle.header.specs.Header.{headerBytes}
-use Rattle.header.specs.Judging.{recordTests, building}
+use Rattle.header.specs.Judging.{recordTests, judging}
 use Rattle.header.specs.Reading.{entityWidthIn, sequenceWidthIn, headerLengthIn, headerIn, readingHeader}
 use Rattle.header.specs.Writing.{headerMemory}
 use Rattle.header.specs.Demands.{HeaderReadsBack, MemoryReadsBack, ReadIsSound, HeaderDemand3, OneHeaderResult, OneLengthResult}
@@ -61,9 +61,9 @@ header-demand3 = demand3 (run readingHeader) 2 readingHeader header-two (λ s. r
 
 -- ---- demand 2: what is written reads back
 
-widths-right : (h : PduHeader) → Passed (recordTests h) → (isWidth (h .source .0 .width) ≡ true) × (isWidth (h .sequence .0 .width) ≡ true)
+widths-right : (h : PduHeader) → Passed (recordTests h) → (isWidth (h .width) ≡ true) × (isWidth (h .sequence .0 .width) ≡ true)
 unfolding recordTests
-widths-right h p = (not-false _ (p .1 .0), not-false _ (p .1 .1 .0))
+widths-right h p = (not-false _ (p .0), not-false _ (p .1 .0))
 
 pub sound-reads-back : (h : PduHeader) (t : List ℕ) → Passed (recordTests h) → h .length < 2 ^ 16 → run readingHeader (headerBytes h ++ t) ≡ accepted h
 sound-reads-back h t p small =
@@ -81,11 +81,11 @@ memory-reads-back h s n small e =
 
 -- ---- demand 2: what was read is sound
 
--- a header that stands in bytes has one width for both identifiers, and its values fit
-in-bytes : (a : List ℕ) → Bytes a → isWidth (entityWidthIn a) ≡ true → isWidth (sequenceWidthIn a) ≡ true → accepted (headerIn a) ≡ building (headerIn a)
+-- the values of a header that stands in bytes fit
+in-bytes : (a : List ℕ) → Bytes a → isWidth (entityWidthIn a) ≡ true → isWidth (sequenceWidthIn a) ≡ true → accepted (headerIn a) ≡ judging (headerIn a)
 unfolding headerIn
 in-bytes a b we wq =
-    all-right (headerIn a) refl we wq (lt-fits _ _ (number-lt a _ _ b)) (lt-fits _ _ (number-lt a _ _ b)) (lt-fits _ _ (number-lt a _ _ b))
+    all-right (headerIn a) we wq (lt-fits _ _ (number-lt a _ _ b)) (lt-fits _ _ (number-lt a _ _ b)) (lt-fits _ _ (number-lt a _ _ b))
 
 pub read-is-sound : ReadIsSound
 unfolding readingHeader
@@ -97,4 +97,4 @@ read-is-sound s h b e =
     let we : isWidth (entityWidthIn a) ≡ true = rw same (not-false _ (p .1 .1 .0)) in
     let wq : isWidth (sequenceWidthIn a) ≡ true = rw same (not-false _ (p .1 .1 .1 .0)) in
     let is : headerIn a ≡ h = p .1 .1 .1 .1 .1 in
-    ap building (sym is) ∙ sym (in-bytes a (bytes-take n s b) we wq) ∙ ap accepted is
+    ap judging (sym is) ∙ sym (in-bytes a (bytes-take n s b) we wq) ∙ ap accepted is

@@ -69,7 +69,7 @@ module _ (s : List ℕ) (long : headerLengthIn s ≤ length s) where
   number-is at w x p h k = p ∙ at-number s at w h k
 
   pub header-is : (kind : PduType) (direction : Direction) (mode : TransmissionMode) (crc : CrcFlag) (file : LargeFileFlag) (control : SegmentationControl) (metadata : SegmentMetadataFlag)
-      (d e q x y z : ℕ) (a i t : UnsignedByteField)
+      (d e q x y z : ℕ) (i : UnsignedByteField)
       → kind ≡ pduTypeIf (isSet (getD s 0 0) 16)
       → direction ≡ directionIf (isSet (getD s 0 0) 8)
       → mode ≡ modeIf (isSet (getD s 0 0) 4)
@@ -83,14 +83,12 @@ module _ (s : List ℕ) (long : headerLengthIn s ≤ length s) where
       → x ≡ beAt s 4 e
       → y ≡ beAt s (4 + e) q
       → z ≡ beAt s (4 + e + q) e
-      → a ≡ record { width = e; value = x }
       → i ≡ record { width = q; value = y }
-      → t ≡ record { width = e; value = z }
-      → record { kind = kind; direction = direction; mode = mode; crc = crc; file = file; length = d; control = control; metadata = metadata; source = record { 0 = a }; sequence = record { 0 = i }; destination = record { 0 = t } } ≡ headerIn s
+      → record { kind = kind; direction = direction; mode = mode; crc = crc; file = file; length = d; control = control; width = e; metadata = metadata; source = record { 0 = x }; sequence = record { 0 = i }; destination = record { 0 = z } } ≡ headerIn s
   unfolding headerIn
-  header-is kind direction mode crc file control metadata d e q x y z a i t pk pd pm pc pf pg ps pe pq pl px py pz pa pi pt =
+  header-is kind direction mode crc file control metadata d e q x y z i pk pd pm pc pf pg ps pe pq pl px py pz pi =
       let pl′ : d ≡ numberAt s 1 2 = number-is 1 2 d pl (omega arith) (omega arith) in
       let px′ : x ≡ numberAt s 4 e = number-is 4 e x px (omega arith) (omega arith) in
       let py′ : y ≡ numberAt s (4 + e) q = number-is (4 + e) q y py (omega arith) (omega arith) in
       let pz′ : z ≡ numberAt s (4 + e + q) e = number-is (4 + e + q) e z pz (omega arith) (omega arith) in
-      rw (pa, pi, pt, pk, pd, pm, pc, pf, pg, ps, pl′, px′, py′, pz′, pe, pq)
+      rw (pi, pk, pd, pm, pc, pf, pg, ps, pl′, px′, py′, pz′, pe, pq)

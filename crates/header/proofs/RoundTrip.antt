@@ -71,7 +71,7 @@ module _ (h : PduHeader) (k : Sound h) (small : h .length < 2 ^ 16) where
   -- ---- a list that has the header's bytes 0 and 3 and its numbers holds the header
 
   module _ (a : List ℕ) (a₀ : getD a 0 0 ≡ firstByte h) (a₃ : getD a 3 0 ≡ fourthByte h) (length-at : numberAt a 1 2 ≡ h .length)
-      (source-at : numberAt a 4 e ≡ h .source .0 .value) (sequence-at : numberAt a (4 + e) q ≡ h .sequence .0 .value) (destination-at : numberAt a (4 + e + q) e ≡ h .destination .0 .value) where
+      (source-at : numberAt a 4 e ≡ h .source .0) (sequence-at : numberAt a (4 + e) q ≡ h .sequence .0 .value) (destination-at : numberAt a (4 + e + q) e ≡ h .destination .0) where
     entity-in : entityWidthIn a ≡ e
     entity-in = ap (λ (b : ℕ). b / 16 % 8 + 1) a₃ ∙ entity-is
 
@@ -107,10 +107,11 @@ module _ (h : PduHeader) (k : Sound h) (small : h .length < 2 ^ 16) where
           file = (ap fileIf (set-first 1 _ (bits.first-1 _ _ _ _ _ t d m c f)) ∙ bits.file-back (h .file)) i;
           length = length-at i;
           control = (ap controlIf (set-fourth 128 _ (bits.fourth-128 _ (e - 1) _ (q - 1) g le s lq)) ∙ bits.control-back (h .control)) i;
+          width = entity-in i;
           metadata = (ap metadataIf (set-fourth 8 _ (bits.fourth-8 _ (e - 1) _ (q - 1) g le s lq)) ∙ bits.metadata-back (h .metadata)) i;
-          source = record { 0 = record { width = entity-in i; value = (ap (λ (w : ℕ). numberAt a 4 w) entity-in ∙ source-at) i } };
+          source = record { 0 = (ap (λ (w : ℕ). numberAt a 4 w) entity-in ∙ source-at) i };
           sequence = record { 0 = record { width = sequence-in i; value = (ap₂ (λ (x y : ℕ). numberAt a (4 + x) y) entity-in sequence-in ∙ sequence-at) i } };
-          destination = record { 0 = record { width = (entity-in ∙ k .same) i; value = (ap₂ (λ (x y : ℕ). numberAt a (4 + x + y) x) entity-in sequence-in ∙ destination-at) i } };
+          destination = record { 0 = (ap₂ (λ (x y : ℕ). numberAt a (4 + x + y) x) entity-in sequence-in ∙ destination-at) i };
         }
 
   -- ---- the header's bytes with r behind them, and the parts of them in front of each number
@@ -126,7 +127,7 @@ module _ (h : PduHeader) (k : Sound h) (small : h .length < 2 ^ 16) where
     x₃ = x₂ ++ beBytes 1 (fourthByte h)
 
     abbrev x₄ : List ℕ
-    x₄ = x₃ ++ beBytes e (h .source .0 .value)
+    x₄ = x₃ ++ beBytes e (h .source .0)
 
     abbrev x₅ : List ℕ
     x₅ = x₄ ++ beBytes q (h .sequence .0 .value)
@@ -138,7 +139,7 @@ module _ (h : PduHeader) (k : Sound h) (small : h .length < 2 ^ 16) where
     length₃ = then-length x₂ 3 1 (fourthByte h) (then-length x₁ 1 2 (h .length) length₁)
 
     length₄ : length x₄ ≡ 4 + e
-    length₄ = then-length x₃ 4 e (h .source .0 .value) length₃
+    length₄ = then-length x₃ 4 e (h .source .0) length₃
 
     length₅ : length x₅ ≡ 4 + e + q
     length₅ = then-length x₄ (4 + e) q (h .sequence .0 .value) length₄
@@ -147,23 +148,23 @@ module _ (h : PduHeader) (k : Sound h) (small : h .length < 2 ^ 16) where
     unfolding headerBytes
     length-back = simp append-assoc (number-back x₁ _ 1 2 (h .length) length₁ small)
 
-    source-back : numberAt (headerBytes h ++ r) 4 e ≡ h .source .0 .value
+    source-back : numberAt (headerBytes h ++ r) 4 e ≡ h .source .0
     unfolding headerBytes
     source-back =
-        let t : headerBytes h ++ r ≡ x₃ ++ (beBytes e (h .source .0 .value) ++ (beBytes q (h .sequence .0 .value) ++ (beBytes e (h .destination .0 .value) ++ r))) = simp append-assoc in
-        rw t (number-back x₃ _ 4 e (h .source .0 .value) length₃ (k .source-fits))
+        let t : headerBytes h ++ r ≡ x₃ ++ (beBytes e (h .source .0) ++ (beBytes q (h .sequence .0 .value) ++ (beBytes e (h .destination .0) ++ r))) = simp append-assoc in
+        rw t (number-back x₃ _ 4 e (h .source .0) length₃ (k .source-fits))
 
     sequence-back : numberAt (headerBytes h ++ r) (4 + e) q ≡ h .sequence .0 .value
     unfolding headerBytes
     sequence-back =
-        let t : headerBytes h ++ r ≡ x₄ ++ (beBytes q (h .sequence .0 .value) ++ (beBytes e (h .destination .0 .value) ++ r)) = simp append-assoc in
+        let t : headerBytes h ++ r ≡ x₄ ++ (beBytes q (h .sequence .0 .value) ++ (beBytes e (h .destination .0) ++ r)) = simp append-assoc in
         rw t (number-back x₄ _ (4 + e) q (h .sequence .0 .value) length₄ (k .sequence-fits))
 
-    destination-back : numberAt (headerBytes h ++ r) (4 + e + q) e ≡ h .destination .0 .value
+    destination-back : numberAt (headerBytes h ++ r) (4 + e + q) e ≡ h .destination .0
     unfolding headerBytes
     destination-back =
-        let t : headerBytes h ++ r ≡ x₅ ++ (beBytes e (h .destination .0 .value) ++ r) = simp append-assoc in
-        rw t (number-back x₅ r (4 + e + q) e (h .destination .0 .value) length₅ (k .destination-fits))
+        let t : headerBytes h ++ r ≡ x₅ ++ (beBytes e (h .destination .0) ++ r) = simp append-assoc in
+        rw t (number-back x₅ r (4 + e + q) e (h .destination .0) length₅ (k .destination-fits))
 
     first-four : (i : ℕ) → i < 4 → getD (take 4 (headerBytes h ++ r)) i 0 ≡ getD (headerBytes h ++ r) i 0
     first-four i l = getD-take 4 (headerBytes h ++ r) i 0 l

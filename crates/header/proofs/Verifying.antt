@@ -25,7 +25,7 @@ use Rattle.header.specs.declared.PduHeader.{PduHeader}
 use Rattle.header.specs.declared.flags.CrcFlag.the-variants.{NoCrc, WithCrc}
 use Rattle.header.specs.Flags.{crcBit}
 use Rattle.header.specs.Header.{headerLength, pduLength, dataEnd}
-use Rattle.header.specs.Judging.{recordTests, building}
+use Rattle.header.specs.Judging.{recordTests, judging}
 use Rattle.header.specs.Verifying.{pduBytes, verifyingRead, verifying, checksumBytes, crcAdded}
 
 -- a PDU has at least its fixed bytes
@@ -57,8 +57,8 @@ module _ (h : PduHeader) (s : List ℕ) (p : ℕ) (is : p ≡ pduLength h) where
       good-checksum z = rw (← is, le-ltb _ _ long, ap crcBit flag, eq-eqb _ _ (sym sum ∙ z))
 
 -- of any record: what the judgement refuses is refused, and behind a record that passed the stages decide
-pub refused-verify : (h : PduHeader) (s ns : List ℕ) → told ns ≡ building h → told ns ≡ run (verifying h) s
-unfolding building verifying
+pub refused-verify : (h : PduHeader) (s ns : List ℕ) → told ns ≡ judging h → told ns ≡ run (verifying h) s
+unfolding judging verifying
 refused-verify h s ns e = tests-refused ns (recordTests h) (verifyingRead h) h s e
 
 pub passed-verify : (h : PduHeader) (s : List ℕ) → Passed (recordTests h) → run (verifying h) s ≡ run (verifyingRead h) s

@@ -16,7 +16,7 @@ use Rattle.header.specs.declared.PduHeader.{PduHeader}
 use Rattle.header.specs.declared.flags.Direction.{Direction}
 use Rattle.header.specs.declared.flags.LargeFileFlag.{LargeFileFlag}
 use Rattle.header.specs.Header.{withDirection, withFileFlag, withLength, entityWidth, sequenceWidth, headerLength, firstByte, fourthByte, headerBytes}
-use Rattle.header.specs.Judging.{recordTests, building, Sound}
+use Rattle.header.specs.Judging.{recordTests, judging, Sound}
 use Rattle.header.specs.Writing.{outputTests, writingHeader, headerMemory}
 
 pub header-length : (h : PduHeader) → length (headerBytes h) ≡ headerLength h
@@ -29,9 +29,9 @@ pub fields-put : (h : PduHeader) (s b₁ b₂ b₃ b₄ b₅ b₆ : List ℕ) (f
     → b₁ ≡ bePut s 0 1 f
     → b₂ ≡ bePut b₁ 1 2 (h .length)
     → b₃ ≡ bePut b₂ 3 1 g
-    → b₄ ≡ bePut b₃ 4 (entityWidth h) (h .source .0 .value)
+    → b₄ ≡ bePut b₃ 4 (entityWidth h) (h .source .0)
     → b₅ ≡ bePut b₄ (4 + entityWidth h) (sequenceWidth h) (h .sequence .0 .value)
-    → b₆ ≡ bePut b₅ (4 + entityWidth h + sequenceWidth h) (entityWidth h) (h .destination .0 .value)
+    → b₆ ≡ bePut b₅ (4 + entityWidth h + sequenceWidth h) (entityWidth h) (h .destination .0)
     → b₆ ≡ headerBytes h ++ drop (headerLength h) s
 unfolding headerBytes headerLength
 fields-put h s b₁ b₂ b₃ b₄ b₅ b₆ f g k room small lf lg ef eg e₁ e₂ e₃ e₄ e₅ e₆ =
@@ -40,20 +40,20 @@ fields-put h s b₁ b₂ b₃ b₄ b₅ b₆ f g k room small lf lg ef eg e₁ e
     let a₁ = beBytes 1 f in
     let a₂ = a₁ ++ beBytes 2 (h .length) in
     let a₃ = a₂ ++ beBytes 1 g in
-    let a₄ = a₃ ++ beBytes e (h .source .0 .value) in
+    let a₄ = a₃ ++ beBytes e (h .source .0) in
     let a₅ = a₄ ++ beBytes q (h .sequence .0 .value) in
-    let a₆ = a₅ ++ beBytes e (h .destination .0 .value) in
+    let a₆ = a₅ ++ beBytes e (h .destination .0) in
     let l₁ = be-length 1 f in
     let l₂ = then-length a₁ 1 2 (h .length) l₁ in
     let l₃ = then-length a₂ 3 1 g l₂ in
-    let l₄ = then-length a₃ 4 e (h .source .0 .value) l₃ in
+    let l₄ = then-length a₃ 4 e (h .source .0) l₃ in
     let l₅ = then-length a₄ (4 + e) q (h .sequence .0 .value) l₄ in
     let p₁ = then-put [] s 0 1 f refl (omega arith) (omega arith) lf refl e₁ in
     let p₂ = then-put a₁ s 1 2 (h .length) l₁ (omega arith) (omega arith) small p₁ e₂ in
     let p₃ = then-put a₂ s 3 1 g l₂ (omega arith) (omega arith) lg p₂ e₃ in
-    let p₄ = then-put a₃ s 4 e (h .source .0 .value) l₃ (k .entity-high) (omega arith) (k .source-fits) p₃ e₄ in
+    let p₄ = then-put a₃ s 4 e (h .source .0) l₃ (k .entity-high) (omega arith) (k .source-fits) p₃ e₄ in
     let p₅ = then-put a₄ s (4 + e) q (h .sequence .0 .value) l₄ (k .sequence-high) (omega arith) (k .sequence-fits) p₄ e₅ in
-    let p₆ = then-put a₅ s (4 + e + q) e (h .destination .0 .value) l₅ (k .entity-high) (omega arith) (k .destination-fits) p₅ e₆ in
+    let p₆ = then-put a₅ s (4 + e + q) e (h .destination .0) l₅ (k .entity-high) (omega arith) (k .destination-fits) p₅ e₆ in
     let n : 4 + e + q + e ≡ 4 + 2 * e + q = omega arith in
     p₆ ∙ ap (λ (j : ℕ). a₆ ++ drop j s) n ∙ rw (ef, eg)
 
@@ -63,8 +63,8 @@ unfolding headerMemory
 refused-write h s ns e = (e, told-leaves ns (writingHeader h (length s)) (λ _. headerBytes h) s e)
 
 -- what the judgement refuses the writer refuses
-pub refused-record : (h : PduHeader) (room : ℕ) (ns : List ℕ) → told ns ≡ building h → told ns ≡ writingHeader h room
-unfolding building writingHeader
+pub refused-record : (h : PduHeader) (room : ℕ) (ns : List ℕ) → told ns ≡ judging h → told ns ≡ writingHeader h room
+unfolding judging writingHeader
 refused-record h room ns e = refused-on ns (recordTests h) (outputTests h room) h (headerLength h) e
 
 module _ (h : PduHeader) (good : Passed (recordTests h)) (room : ℕ) where

@@ -19,6 +19,6 @@ unfoldable pub sameHeader : PduHeader → PduHeader → Bool
 sameHeader a b =
     sameFlags a b
     && eqb (a .length) (b .length)
-    && sameValue (a .source .0) (b .source .0)
+    && eqb (a .source .0) (b .source .0)
     && sameValue (a .sequence .0) (b .sequence .0)
-    && sameValue (a .destination .0) (b .destination .0)
+    && eqb (a .destination .0) (b .destination .0)

@@ -13,7 +13,7 @@ use Rattle.header.specs.declared.HeaderResult.{HeaderResult}
 use Rattle.header.specs.declared.LengthResult.{LengthResult}
 use Rattle.header.specs.Header.{headerBytes}
 use Rattle.header.specs.Answers.{headerAnswer, lengthAnswer}
-use Rattle.header.specs.Judging.{building}
+use Rattle.header.specs.Judging.{judging}
 use Rattle.header.specs.Reading.{readingHeader}
 use Rattle.header.specs.Writing.{writingHeader, headerMemory}
 use Rattle.header.specs.Comparing.{sameHeader}
@@ -28,7 +28,7 @@ MemoryReadsBack = (h : PduHeader) (s : List ℕ) (written : ℕ) → h .length <
 
 -- DEMAND 2: a header that was read from bytes passes the judgement of a record
 abbrev pub ReadIsSound : Type 0
-ReadIsSound = (s : List ℕ) (h : PduHeader) → Bytes s → run readingHeader s ≡ accepted h → building h ≡ accepted h
+ReadIsSound = (s : List ℕ) (h : PduHeader) → Bytes s → run readingHeader s ≡ accepted h → judging h ≡ accepted h
 
 -- two headers that are the same share every flag, d, and the numbers of their identifiers
 pub record SameFields (a b : PduHeader) : Type 0 where
@@ -40,9 +40,9 @@ pub record SameFields (a b : PduHeader) : Type 0 where
   pub control : a .control ≡ b .control
   pub metadata : a .metadata ≡ b .metadata
   pub length : a .length ≡ b .length
-  pub source : a .source .0 .value ≡ b .source .0 .value
+  pub source : a .source .0 ≡ b .source .0
   pub sequence : a .sequence .0 .value ≡ b .sequence .0 .value
-  pub destination : a .destination .0 .value ≡ b .destination .0 .value
+  pub destination : a .destination .0 ≡ b .destination .0
 
 abbrev pub SameHeaderShares : Type 0
 SameHeaderShares = (a b : PduHeader) → sameHeader a b ≡ true → SameFields a b

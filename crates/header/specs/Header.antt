@@ -1,6 +1,7 @@
 -- The header on the link (CCSDS 727.0-B-5, 5.1, table 5-1), its lengths, and the record with one field set anew.
 use Prim.Native.Nat.{ℕ, _+_, _-_, _*_}
 use mathlib.Core.List.{List, _++_}
+use Rattle.fields.specs.declared.field.UnsignedByteField.{UnsignedByteField}
 use Rattle.fields.specs.BigEndian.{beBytes}
 use Rattle.header.specs.declared.PduHeader.{PduHeader}
 use Rattle.header.specs.declared.flags.Direction.{Direction}
@@ -17,10 +18,17 @@ fixedLength = 4
 
 -- e and s: the widths of the identifiers and of the sequence number
 abbrev pub entityWidth : PduHeader → ℕ
-entityWidth h = h .source .0 .width
+entityWidth h = h .width
 
 abbrev pub sequenceWidth : PduHeader → ℕ
 sequenceWidth h = h .sequence .0 .width
+
+-- an identifier with its width
+abbrev pub sourceId : PduHeader → UnsignedByteField
+sourceId h = record { width = h .width; value = h .source .0 }
+
+abbrev pub destId : PduHeader → UnsignedByteField
+destId h = record { width = h .width; value = h .destination .0 }
 
 -- h = 4 + 2e + s
 unfoldable pub headerLength : PduHeader → ℕ
@@ -46,16 +54,16 @@ fourthByte h = controlBit (h .control) * 128 + (entityWidth h - 1) * 16 + metada
 unfoldable pub headerBytes : PduHeader → List ℕ
 headerBytes h =
     beBytes 1 (firstByte h) ++ beBytes 2 (h .length) ++ beBytes 1 (fourthByte h)
-    ++ beBytes (entityWidth h) (h .source .0 .value)
+    ++ beBytes (entityWidth h) (h .source .0)
     ++ beBytes (sequenceWidth h) (h .sequence .0 .value)
-    ++ beBytes (entityWidth h) (h .destination .0 .value)
+    ++ beBytes (entityWidth h) (h .destination .0)
 
 -- a header with one field set anew
 abbrev pub withDirection : Direction → PduHeader → PduHeader
-withDirection d h = record { kind = h .kind; direction = d; mode = h .mode; crc = h .crc; file = h .file; length = h .length; control = h .control; metadata = h .metadata; source = h .source; sequence = h .sequence; destination = h .destination }
+withDirection d h = record { kind = h .kind; direction = d; mode = h .mode; crc = h .crc; file = h .file; length = h .length; control = h .control; width = h .width; metadata = h .metadata; source = h .source; sequence = h .sequence; destination = h .destination }
 
 abbrev pub withFileFlag : LargeFileFlag → PduHeader → PduHeader
-withFileFlag f h = record { kind = h .kind; direction = h .direction; mode = h .mode; crc = h .crc; file = f; length = h .length; control = h .control; metadata = h .metadata; source = h .source; sequence = h .sequence; destination = h .destination }
+withFileFlag f h = record { kind = h .kind; direction = h .direction; mode = h .mode; crc = h .crc; file = f; length = h .length; control = h .control; width = h .width; metadata = h .metadata; source = h .source; sequence = h .sequence; destination = h .destination }
 
 abbrev pub withLength : ℕ → PduHeader → PduHeader
-withLength d h = record { kind = h .kind; direction = h .direction; mode = h .mode; crc = h .crc; file = h .file; length = d; control = h .control; metadata = h .metadata; source = h .source; sequence = h .sequence; destination = h .destination }
+withLength d h = record { kind = h .kind; direction = h .direction; mode = h .mode; crc = h .crc; file = h .file; length = d; control = h .control; width = h .width; metadata = h .metadata; source = h .source; sequence = h .sequence; destination = h .destination }

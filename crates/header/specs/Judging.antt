@@ -1,4 +1,4 @@
--- Judging a header record: the rows 13, 3, 4 and 14 of document 01's table, and building a record.
+-- Judging a header record, and building one: the rows 13, 3, 4 and 14 of document 01's table.
 use Prim.Native.Nat.{ℕ, _^_, _≤_, _<_}
 use mathlib.Core.Path.{_≡_}
 use mathlib.Core.Bool.{not}
@@ -8,6 +8,7 @@ use Rattle.fields.specs.declared.field.UnsignedByteField.{UnsignedByteField}
 use Rattle.fields.specs.Width.{isWidth, fitsField}
 use Rattle.fields.specs.Answer.{Answer, Test, when, firstOf}
 use Rattle.header.specs.declared.PduHeader.{PduHeader}
+use Rattle.header.specs.Header.{sourceId, destId}
 
 -- 13: source and destination widths differ
 abbrev pub widthsDiffer : ℕ → ℕ → Test
@@ -25,28 +26,34 @@ wrongSequenceWidth w = when (not (isWidth w)) (4 ∷ w ∷ [])
 abbrev pub tooLarge : UnsignedByteField → Test
 tooLarge f = when (not (fitsField f)) (14 ∷ f .value ∷ f .width ∷ [])
 
--- 13, 3, 4, 14 (for source, then sequence, then destination)
+-- 3, 4, 14 (for source, then sequence, then destination)
 unfoldable pub recordTests : PduHeader → List Test
 recordTests h =
-    widthsDiffer (h .source .0 .width) (h .destination .0 .width)
-    ∷ wrongEntityWidth (h .source .0 .width)
+    wrongEntityWidth (h .width)
     ∷ wrongSequenceWidth (h .sequence .0 .width)
-    ∷ tooLarge (h .source .0)
+    ∷ tooLarge (sourceId h)
     ∷ tooLarge (h .sequence .0)
-    ∷ tooLarge (h .destination .0)
+    ∷ tooLarge (destId h)
     ∷ []
 
--- building a record
-unfoldable pub building : PduHeader → Answer PduHeader
-building h = firstOf (recordTests h) h
+-- judging a record, which has one width for both identifiers
+unfoldable pub judging : PduHeader → Answer PduHeader
+judging h = firstOf (recordTests h) h
+
+-- a record of two identifiers that have a width each: there is one where they agree
+unfoldable pub joining : UnsignedByteField → UnsignedByteField → PduHeader → Answer PduHeader
+joining source destination h = firstOf (widthsDiffer (source .width) (destination .width) ∷ []) h
+
+-- 'Building a record: 13, 3, 4, 14'
+unfoldable pub building : UnsignedByteField → UnsignedByteField → PduHeader → Answer PduHeader
+building source destination h = firstOf (widthsDiffer (source .width) (destination .width) ∷ recordTests h) h
 
 -- what a record that passed is known to be, for the functions behind the judgement
 pub record Sound (h : PduHeader) : Type 0 where
-  pub same : h .source .0 .width ≡ h .destination .0 .width
-  pub entity-low : 1 ≤ h .source .0 .width
-  pub entity-high : h .source .0 .width ≤ 8
+  pub entity-low : 1 ≤ h .width
+  pub entity-high : h .width ≤ 8
   pub sequence-low : 1 ≤ h .sequence .0 .width
   pub sequence-high : h .sequence .0 .width ≤ 8
-  pub source-fits : h .source .0 .value < 256 ^ h .source .0 .width
+  pub source-fits : h .source .0 < 256 ^ h .width
   pub sequence-fits : h .sequence .0 .value < 256 ^ h .sequence .0 .width
-  pub destination-fits : h .destination .0 .value < 256 ^ h .source .0 .width
+  pub destination-fits : h .destination .0 < 256 ^ h .width

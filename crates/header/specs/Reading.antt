@@ -41,10 +41,11 @@ headerIn s =
       file = fileIf (isSet (getD s 0 0) 1);
       length = numberAt s 1 2;
       control = controlIf (isSet (getD s 3 0) 128);
+      width = entityWidthIn s;
       metadata = metadataIf (isSet (getD s 3 0) 8);
-      source = record { 0 = record { width = entityWidthIn s; value = numberAt s 4 (entityWidthIn s) } };
+      source = record { 0 = numberAt s 4 (entityWidthIn s) };
       sequence = record { 0 = record { width = sequenceWidthIn s; value = numberAt s (4 + entityWidthIn s) (sequenceWidthIn s) } };
-      destination = record { 0 = record { width = entityWidthIn s; value = numberAt s (4 + entityWidthIn s + sequenceWidthIn s) (entityWidthIn s) } };
+      destination = record { 0 = numberAt s (4 + entityWidthIn s + sequenceWidthIn s) (entityWidthIn s) };
     }
 
 -- 2: version is not 1

@@ -15,7 +15,7 @@ outputTests h room =
     ∷ when (ltb room (headerLength h)) (11 ∷ room ∷ headerLength h ∷ [])
     ∷ []
 
--- '13, 3, 4, 14, then 11'; else the written length
+-- '3, 4, 14, then 11'; else the written length
 unfoldable pub writingHeader : PduHeader → ℕ → Answer ℕ
 writingHeader h room = firstOf (recordTests h ++ outputTests h room) (headerLength h)
 

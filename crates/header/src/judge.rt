@@ -1,7 +1,7 @@
-// Judging a header record, and building one: refusals 13, 3, 4 and 14, in this order.
+// Judging a header record (refusals 3, 4 and 14), and building one from two identifiers that have a width each (13 before them).
 ghost use mathlib.Core.Path.{_≡_};
 ghost use Rattle.header.specs.Answers.{headerAnswer};
-ghost use Rattle.header.specs.Judging.{building};
+ghost use Rattle.header.specs.Judging.{judging, joining, building};
 use crate::CrcFlag;
 use crate::Direction;
 use crate::HeaderResult;
@@ -29,19 +29,13 @@ fn too_large(field: UnsignedByteField) -> Refusal
 impl PduHeader {
     // The record itself, if every width and value of it is allowed.
     pub fn judged(self) -> HeaderResult
-        ensures { λ r. ⌜ headerAnswer r ≡ building self ⌝ }
+        ensures { λ r. ⌜ headerAnswer r ≡ judging self ⌝ }
     {
-        let source = self.source.0;
+        let source = self.source_id();
         let sequence = self.sequence.0;
-        let destination = self.destination.0;
-        if source.width != destination.width {
-            return HeaderResult::Refused(Refusal::SourceDestIdLenMissmatch {
-                source: source.width,
-                destination: destination.width,
-            });
-        }
-        if !field::is_width(source.width) {
-            return HeaderResult::Refused(Refusal::InvalidEntityLen(source.width));
+        let destination = self.dest_id();
+        if !field::is_width(self.width) {
+            return HeaderResult::Refused(Refusal::InvalidEntityLen(self.width));
         }
         if !field::is_width(sequence.width) {
             return HeaderResult::Refused(Refusal::InvalidTransactionSeqNumLen(sequence.width));
@@ -58,7 +52,45 @@ impl PduHeader {
         HeaderResult::Header(self)
     }
 
-    // A record of its parts.
+    // A record of its parts, where the two identifiers have one width; nothing else of it is judged.
+    pub fn from_fields(
+        kind: PduType,
+        direction: Direction,
+        mode: TransmissionMode,
+        crc: CrcFlag,
+        file: LargeFileFlag,
+        length: u16,
+        control: SegmentationControl,
+        metadata: SegmentMetadataFlag,
+        source: UnsignedByteField,
+        sequence: TransactionSeqNum,
+        destination: UnsignedByteField,
+    ) -> HeaderResult
+        ensures { λ r. ⌜ headerAnswer r ≡ joining source destination (record { kind = kind; direction = direction; mode = mode; crc = crc; file = file; length = length; control = control; width = source .width; metadata = metadata; source = record { 0 = source .value }; sequence = sequence; destination = record { 0 = destination .value } }) ⌝ }
+    {
+        if source.width != destination.width {
+            return HeaderResult::Refused(Refusal::SourceDestIdLenMissmatch {
+                source: source.width,
+                destination: destination.width,
+            });
+        }
+        HeaderResult::Header(PduHeader {
+            kind,
+            direction,
+            mode,
+            crc,
+            file,
+            length,
+            control,
+            width: source.width,
+            metadata,
+            source: EntityId(source.value),
+            sequence,
+            destination: EntityId(destination.value),
+        })
+    }
+
+    // The same, judged.
     pub fn new_generic(
         kind: PduType,
         direction: Direction,
@@ -68,13 +100,13 @@ impl PduHeader {
         length: u16,
         control: SegmentationControl,
         metadata: SegmentMetadataFlag,
-        source: EntityId,
+        source: UnsignedByteField,
         sequence: TransactionSeqNum,
-        destination: EntityId,
+        destination: UnsignedByteField,
     ) -> HeaderResult
-        ensures { λ r. ⌜ headerAnswer r ≡ building (record { kind = kind; direction = direction; mode = mode; crc = crc; file = file; length = length; control = control; metadata = metadata; source = source; sequence = sequence; destination = destination }) ⌝ }
+        ensures { λ r. ⌜ headerAnswer r ≡ building source destination (record { kind = kind; direction = direction; mode = mode; crc = crc; file = file; length = length; control = control; width = source .width; metadata = metadata; source = record { 0 = source .value }; sequence = sequence; destination = record { 0 = destination .value } }) ⌝ }
     {
-        let header = PduHeader {
+        let joined = PduHeader::from_fields(
             kind,
             direction,
             mode,
@@ -86,7 +118,10 @@ impl PduHeader {
             source,
             sequence,
             destination,
-        };
-        header.judged()
+        );
+        match joined {
+            HeaderResult::Refused(refusal) => HeaderResult::Refused(refusal),
+            HeaderResult::Header(header) => header.judged(),
+        }
     }
 }

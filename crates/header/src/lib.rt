@@ -1,10 +1,11 @@
 // Layer 2 of the codec: the common PDU header (the Rust's `cfdp/pdu/mod.rs`): its record, read, judged, written, verified and compared.
 ghost use mathlib.Core.Path.{_≡_};
 ghost use Prim.Native.Nat.{_≤_};
-ghost use Rattle.header.specs.Header.{headerLength, pduLength, withDirection, withFileFlag, withLength};
+ghost use Rattle.header.specs.Header.{headerLength, pduLength, sourceId, destId, withDirection, withFileFlag, withLength};
 use fields::EntityId;
 use fields::Refusal;
 use fields::TransactionSeqNum;
+use fields::UnsignedByteField;
 
 pub mod compare;
 pub mod flags;
@@ -39,6 +40,8 @@ pub struct PduHeader {
     pub length: u16,
     // seg_ctrl
     pub control: SegmentationControl,
+    // The bytes of each of the two entity identifiers.
+    pub width: u8,
     // seg_metadata_flag
     pub metadata: SegmentMetadataFlag,
     // source_entity_id
@@ -66,9 +69,23 @@ impl PduHeader {
     pub fn header_len(self) -> usize
         ensures { λ r. ⌜ (r ≡ headerLength self) × (4 ≤ r) × (r ≤ 769) ⌝ }
     {
-        let entity = self.source.0.width as usize;
+        let entity = self.width as usize;
         let sequence = self.sequence.0.width as usize;
         FIXED_HEADER_LEN + 2 * entity + sequence
+    }
+
+    // The source's identifier with its width.
+    pub fn source_id(self) -> UnsignedByteField
+        ensures { λ r. ⌜ r ≡ sourceId self ⌝ }
+    {
+        UnsignedByteField::new(self.width, self.source.0)
+    }
+
+    // The destination's.
+    pub fn dest_id(self) -> UnsignedByteField
+        ensures { λ r. ⌜ r ≡ destId self ⌝ }
+    {
+        UnsignedByteField::new(self.width, self.destination.0)
     }
 
     // P: the bytes of the whole PDU, at most 65,535 more.

@@ -70,10 +70,11 @@ fn header_in(s: &[u8]) -> PduHeader
         file: LargeFileFlag::from_bit(bit_at(first, 0)),
         length,
         control: SegmentationControl::from_bit(bit_at(fourth, 7)),
+        width: entity,
         metadata: SegmentMetadataFlag::from_bit(bit_at(fourth, 3)),
-        source: EntityId(UnsignedByteField::new(entity, source_id)),
+        source: EntityId(source_id),
         sequence: TransactionSeqNum(UnsignedByteField::new(sequence, number)),
-        destination: EntityId(UnsignedByteField::new(entity, destination_id)),
+        destination: EntityId(destination_id),
     }
 }
 

@@ -44,7 +44,7 @@ fn fourth_byte(h: PduHeader) -> u8
 {
     let control = h.control;
     let metadata = h.metadata;
-    let entity = h.source.0.width - 1;
+    let entity = h.width - 1;
     let sequence = h.sequence.0.width - 1;
     let four = beside(metadata.bit(), 3, sequence);
     let seven = beside(entity, 4, four);
@@ -56,11 +56,11 @@ fn put_header(h: PduHeader, buf: &mut [u8])
     requires { ⌜ Sound h × (headerLength h ≤ length (now buf)) ⌝ }
     ensures { λ _. ⌜ now (buf .exit) ≡ headerBytes h ++ drop (headerLength h) (now (buf .entry)) ⌝ }
 {
-    let entity = h.source.0.width as usize;
+    let entity = h.width as usize;
     let sequence = h.sequence.0.width as usize;
-    let source_id = h.source.0.value;
+    let source_id = h.source.0;
     let number = h.sequence.0.value;
-    let destination_id = h.destination.0.value;
+    let destination_id = h.destination.0;
     let length = h.length as u64;
     let first = first_byte(h) as u64;
     let fourth = fourth_byte(h) as u64;
@@ -94,7 +94,7 @@ fn writable(h: PduHeader, room: usize) -> LengthResult
     match judged {
         HeaderResult::Refused(refusal) => LengthResult::Refused(refusal),
         HeaderResult::Header(_) => {
-            let entity = wide(h.source.0.width);
+            let entity = wide(h.width);
             let sequence = wide(h.sequence.0.width);
             // The Rust asks for room without the destination, and then names the fixed bytes alone.
             if room < FIXED_HEADER_LEN + entity + sequence {

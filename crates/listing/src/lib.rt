@@ -62,8 +62,8 @@ fn print_requests(nak: Nak, buf: &[u8], count: usize) {
 fn print_nak(nak: Nak, buf: &[u8]) {
     let header = nak.header;
     io::write_all(STDOUT_FILENO, b"nak");
-    print_number(header.source.0.value);
-    print_line(b"", 2, header.sequence.0.value, header.destination.0.value);
+    print_number(header.source.0);
+    print_line(b"", 2, header.sequence.0.value, header.destination.0);
     print_line(b"scope", 2, nak.start, nak.end);
     print_requests(nak, buf, nak.count);
     print_line(b"end", 1, nak.stop as u64, 0);

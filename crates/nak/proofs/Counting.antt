@@ -11,7 +11,7 @@ use Rattle.header.proofs.Judging.{refused-first}
 use Rattle.header.specs.declared.PduHeader.{PduHeader}
 use Rattle.header.specs.Flags.{crcBit}
 use Rattle.header.specs.Header.{headerLength}
-use Rattle.header.specs.Judging.{recordTests, building}
+use Rattle.header.specs.Judging.{recordTests, judging}
 use Rattle.nak.specs.Nak.{offsetWidth, pairSize, areaStart}
 use Rattle.nak.specs.Counting.{leastPacket, packetTooSmall, mostRequests}
 
@@ -19,7 +19,7 @@ pub least-is : (h : PduHeader) (a w b : ℕ) → a ≡ headerLength h → w ≡ 
 unfolding leastPacket areaStart
 least-is h a w b p q r = rw (p, q, r)
 
-pub refused-count : (h : PduHeader) (size : ℕ) (ns : List ℕ) → told ns ≡ building h → told ns ≡ mostRequests h size
+pub refused-count : (h : PduHeader) (size : ℕ) (ns : List ℕ) → told ns ≡ judging h → told ns ≡ mostRequests h size
 unfolding mostRequests
 refused-count h size ns e = refused-first h (packetTooSmall h size ∷ []) _ ns e
 

@@ -14,7 +14,7 @@ use Rattle.fields.proofs.Judging.{Passed, passed, all-passed, passed-first, pas
 use Rattle.header.specs.declared.PduHeader.{PduHeader}
 use Rattle.header.specs.Flags.{crcBit}
 use Rattle.header.specs.Header.{pduLength, dataEnd}
-use Rattle.header.specs.Judging.{recordTests, building}
+use Rattle.header.specs.Judging.{recordTests, judging}
 use Rattle.header.specs.Verifying.{crcAdded}
 use Rattle.header.proofs.Judging.{refused-first}
 use Rattle.header.proofs.Verifying.{end-sum}
@@ -28,7 +28,7 @@ use Rattle.nak.proofs.Writing.{ToWrite, to-write, judged-nak, into-room
 -- ---- the judgement of the pairs
 
 module _ (h : PduHeader) (n : ℕ) where
-  pub refused-pairs : (ns : List ℕ) → told ns ≡ building h → told ns ≡ judgingPairs h n
+  pub refused-pairs : (ns : List ℕ) → told ns ≡ judging h → told ns ≡ judgingPairs h n
   unfolding judgingPairs pairTests
   refused-pairs ns e = refused-first h _ _ ns e
 

@@ -25,7 +25,7 @@ use Rattle.header.specs.declared.flags.LargeFileFlag.{LargeFileFlag}
 use Rattle.header.specs.declared.flags.LargeFileFlag.the-variants.{Normal, Large}
 use Rattle.header.specs.Flags.{crcBit}
 use Rattle.header.specs.Header.{headerLength, pduLength, headerBytes, withDirection, withFileFlag, withLength}
-use Rattle.header.specs.Judging.{recordTests, building}
+use Rattle.header.specs.Judging.{recordTests, judging}
 use Rattle.header.specs.Writing.{headerMemory}
 use Rattle.header.specs.Verifying.{checksumBytes, crcAdded}
 use Rattle.header.proofs.Judging.{with-tests, refused-first}
@@ -76,7 +76,7 @@ module _ {A : Type 0} (x : A) (file : LargeFileFlag) (h : PduHeader) (start end 
   abbrev judged-as : Answer A
   judged-as = firstOf (nakTests file h start end count) x
 
-  pub refused-nak : (ns : List ℕ) → told ns ≡ building h → told ns ≡ judged-as
+  pub refused-nak : (ns : List ℕ) → told ns ≡ judging h → told ns ≡ judged-as
   unfolding nakTests
   refused-nak ns e = refused-first h _ _ ns e
 

@@ -21,7 +21,7 @@ flat (p ∷ ps) = p .0 ∷ p .1 ∷ flat ps
 
 -- an accepted NAK as numbers: 0; source, sequence number, destination; scope; E; how many pairs, and these
 abbrev pub shown : List ℕ → Answer Nak → List ℕ
-shown s (accepted n) = 0 ∷ n .header .source .0 .value ∷ n .header .sequence .0 .value ∷ n .header .destination .0 .value ∷ n .start ∷ n .end ∷ n .stop ∷ n .count ∷ flat (pairsOf (n .header .file) (areaOf n s))
+shown s (accepted n) = 0 ∷ n .header .source .0 ∷ n .header .sequence .0 .value ∷ n .header .destination .0 ∷ n .start ∷ n .end ∷ n .stop ∷ n .count ∷ flat (pairsOf (n .header .file) (areaOf n s))
 shown s (short l n) = 1 ∷ l ∷ n ∷ []
 shown s (refused ns) = ns
 

@@ -82,7 +82,7 @@ tooMany file n = when (ltb (mostPairs file) n) (10 ∷ n ∷ mostPairs file ∷ 
 abbrev pub noRoom : ℕ → PduHeader → Test
 noRoom room h = when (ltb room (pduLength h)) (11 ∷ room ∷ pduLength h ∷ [])
 
--- '13; 3; 4; 14 for source, sequence, destination; 12; 9; 10'
+-- '3; 4; 14 for source, sequence, destination; 12; 9; 10'
 unfoldable pub nakTests : LargeFileFlag → PduHeader → ℕ → ℕ → ℕ → List Test
 nakTests file h start end count = recordTests h ++ (oddCount count ∷ scopeTooLarge file start end ∷ tooMany file (count / 2) ∷ [])
 

@@ -1,4 +1,4 @@
--- `cfdp_nak::header_from` meets its contract: seven flags by their bytes, three widths and three values.
+-- `cfdp_nak::header_from` meets its contract: each flag is that of its byte, and the widths are joined.
 -- Assumes nothing.
 use Rattle.cfdp_nak.proofs.Given.{header-is}
 use borrow.Author.Needs.{needs}
@@ -65,9 +65,11 @@ element-copy-out-from-bit-10 c = search needs
 from-bit-requires-7 : tie.Need-from-bit-requires-7
 from-bit-requires-7 c κs = search needs
 
+from-fields-requires : tie.Need-from-fields-requires
+from-fields-requires c κs = search needs
+
 returns : tie.Need-returns
-returns c =
-    header-is (c .before .before .before .before .before .before .before .before .before .before .before .before .before .before .before .before .before .before .before .before .args .shape .now) (c .before .before .before .before .before .before .before .before .before .before .before .before .before .before .before .before .before .before .before .before .args .ids .now) _ _ _ _ _ _ _ _ (c .before .before .before .before .before .before .before .before .before .before .before .before .from-bit .ensures) (c .before .before .before .before .before .before .before .before .before .before .from-bit2 .ensures) (c .before .before .before .before .before .before .before .before .from-bit3 .ensures) (c .before .before .before .before .before .before .from-bit4 .ensures) (c .before .before .before .before .from-bit5 .ensures) (c .before .before .from-bit6 .ensures) (c .from-bit7 .ensures)
+returns c = header-is (c .before .before .before .before .before .before .before .before .before .before .before .before .before .before .before .before .before .before .before .before .before .args .shape .now) (c .before .before .before .before .before .before .before .before .before .before .before .before .before .before .before .before .before .before .before .before .before .args .ids .now) _ _ _ _ _ _ _ _ (c .before .before .before .before .before .before .before .before .before .before .before .before .before .from-bit .ensures) (c .before .before .before .before .before .before .before .before .before .before .before .from-bit2 .ensures) (c .before .before .before .before .before .before .before .before .before .from-bit3 .ensures) (c .before .before .before .before .before .before .before .from-bit4 .ensures) (c .before .before .before .before .before .from-bit5 .ensures) (c .before .before .before .from-bit6 .ensures) (c .before .from-bit7 .ensures) _ (c .from-fields .ensures)
 
 pub header-from-spec : {M : Type 1} → statement M
 header-from-spec =
@@ -93,4 +95,5 @@ header-from-spec =
     from-bit-requires-6
     element-copy-out-from-bit-10
     from-bit-requires-7
+    from-fields-requires
     returns)

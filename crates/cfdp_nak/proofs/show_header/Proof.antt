@@ -8,6 +8,9 @@ use borrow.Author.Needs.{needs}
 use Rattle.cfdp_nak.proofs.show_header.Statement.{statement}
 use Rattle.cfdp_nak.proofs.show_header.Tie as tie
 
+cast-width : tie.Need-cast-width
+cast-width c = search needs
+
 bit-requires : tie.Need-bit-requires
 bit-requires c κs = search needs
 
@@ -50,26 +53,20 @@ bit-requires-7 c κs = search needs
 cast-metadata-bit : tie.Need-cast-metadata-bit
 cast-metadata-bit c = search needs
 
+cast-t25 : tie.Need-cast-t25
+cast-t25 c = search needs
+
 cast-t26 : tie.Need-cast-t26
 cast-t26 c = search needs
 
-cast-t27 : tie.Need-cast-t27
-cast-t27 c = search needs
-
-cast-t28 : tie.Need-cast-t28
-cast-t28 c = search needs
-
-cast-t29 : tie.Need-cast-t29
-cast-t29 c = search needs
-
 returns : tie.Need-returns
-returns c =
-    ap (λ (ns : List ℕ). 0 ∷ ns) (header-numbers (c .before .before .before .before .before .before .before .before .before .before .before .before .before .before .before .args .header) _ _ _ _ _ _ _ _ (c .before .before .before .before .before .before .before .before .before .before .before .bit .ensures .0) (c .before .before .before .before .before .before .before .before .before .before .bit2 .ensures .0) (c .before .before .before .before .before .before .before .before .before .bit3 .ensures .0) (c .before .before .before .before .before .before .before .before .bit4 .ensures .0) (c .before .before .before .before .before .before .before .bit5 .ensures .0) (c .before .before .before .before .before .before .bit6 .ensures .0) (c .before .before .before .before .before .bit7 .ensures .0))
+returns c = ap (λ (ns : List ℕ). 0 ∷ ns) (header-numbers (c .before .before .before .before .before .before .before .before .before .before .before .before .args .header) _ _ _ _ _ _ _ _ (c .before .before .before .before .before .before .before .before .before .bit .ensures .0) (c .before .before .before .before .before .before .before .before .bit2 .ensures .0) (c .before .before .before .before .before .before .before .bit3 .ensures .0) (c .before .before .before .before .before .before .bit4 .ensures .0) (c .before .before .before .before .before .bit5 .ensures .0) (c .before .before .before .before .bit6 .ensures .0) (c .before .before .before .bit7 .ensures .0))
 
 pub show-header-spec : {M : Type 1} → statement M
 show-header-spec =
     tie.close
     (tie.spec
+    cast-width
     bit-requires
     cast-kind-bit
     bit-requires-2
@@ -84,8 +81,6 @@ show-header-spec =
     cast-control-bit
     bit-requires-7
     cast-metadata-bit
+    cast-t25
     cast-t26
-    cast-t27
-    cast-t28
-    cast-t29
     returns)

@@ -95,31 +95,22 @@ from-bit-requires-7 c κs = search needs
 new-requires : tie.Need-new-requires
 new-requires c κs = search needs
 
-new-requires-2 : tie.Need-new-requires-2
-new-requires-2 c κs = search needs
-
-new-requires-3 : tie.Need-new-requires-3
-new-requires-3 c κs = search needs
-
 returns : tie.Need-returns
-returns c =
-    header-is _ (c .before .before .before .before .before .before .before .before .before .before .before .before .before .before .before .before .before .before .before .before .before .before .before .before .before .before .pre) _ _ _ _ _ _ _ _ _ _ _ _ _ _ _ _
-    (c .before .before .before .before .before .before .before .before .before .before .before .before .before .before .before .from-bit .ensures ∙ ap pduTypeIf (c .before .before .before .before .before .before .before .before .before .before .before .before .before .before .before .before .bit-at .ensures))
-    (c .before .before .before .before .before .before .before .before .before .before .before .before .before .from-bit2 .ensures ∙ ap directionIf (c .before .before .before .before .before .before .before .before .before .before .before .before .before .before .bit-at2 .ensures))
-    (c .before .before .before .before .before .before .before .before .before .before .before .from-bit3 .ensures ∙ ap modeIf (c .before .before .before .before .before .before .before .before .before .before .before .before .bit-at3 .ensures))
-    (c .before .before .before .before .before .before .before .before .before .from-bit4 .ensures ∙ ap crcIf (c .before .before .before .before .before .before .before .before .before .before .bit-at4 .ensures))
-    (c .before .before .before .before .before .before .before .from-bit5 .ensures ∙ ap fileIf (c .before .before .before .before .before .before .before .before .bit-at5 .ensures))
-    (c .before .before .before .before .before .from-bit6 .ensures ∙ ap controlIf (c .before .before .before .before .before .before .bit-at6 .ensures))
-    (c .before .before .before .from-bit7 .ensures ∙ ap metadataIf (c .before .before .before .before .bit-at7 .ensures))
-    (c .before .before .before .before .before .before .before .before .before .before .before .before .before .before .before .before .before .before .before .before .before .before .width-at .ensures .0)
-    (omega (arith, c .before .before .before .before .before .before .before .before .before .before .before .before .before .before .before .before .before .before .before .before .before .width-at2 .ensures .0))
-    (c .before .before .before .before .before .before .before .before .before .before .before .before .before .before .before .before .before .before .before .before .read-be .ensures .0)
-    (c .before .before .before .before .before .before .before .before .before .before .before .before .before .before .before .before .before .before .before .read-be2 .ensures .0)
-    (c .before .before .before .before .before .before .before .before .before .before .before .before .before .before .before .before .before .before .read-be3 .ensures .0)
-    (c .before .before .before .before .before .before .before .before .before .before .before .before .before .before .before .before .before .read-be4 .ensures .0)
-    (c .before .before .new .ensures)
-    (c .before .new2 .ensures)
-    (c .new3 .ensures)
+returns c = header-is _ (c .before .before .before .before .before .before .before .before .before .before .before .before .before .before .before .before .before .before .before .before .before .before .before .before .pre) _ _ _ _ _ _ _ _ _ _ _ _ _ _
+    (c .before .before .before .before .before .before .before .before .before .before .before .before .before .from-bit .ensures ∙ ap pduTypeIf (c .before .before .before .before .before .before .before .before .before .before .before .before .before .before .bit-at .ensures))
+    (c .before .before .before .before .before .before .before .before .before .before .before .from-bit2 .ensures ∙ ap directionIf (c .before .before .before .before .before .before .before .before .before .before .before .before .bit-at2 .ensures))
+    (c .before .before .before .before .before .before .before .before .before .from-bit3 .ensures ∙ ap modeIf (c .before .before .before .before .before .before .before .before .before .before .bit-at3 .ensures))
+    (c .before .before .before .before .before .before .before .from-bit4 .ensures ∙ ap crcIf (c .before .before .before .before .before .before .before .before .bit-at4 .ensures))
+    (c .before .before .before .before .before .from-bit5 .ensures ∙ ap fileIf (c .before .before .before .before .before .before .bit-at5 .ensures))
+    (c .before .before .before .from-bit6 .ensures ∙ ap controlIf (c .before .before .before .before .bit-at6 .ensures))
+    (c .before .from-bit7 .ensures ∙ ap metadataIf (c .before .before .bit-at7 .ensures))
+    (c .before .before .before .before .before .before .before .before .before .before .before .before .before .before .before .before .before .before .before .before .width-at .ensures .0)
+    (omega (arith, c .before .before .before .before .before .before .before .before .before .before .before .before .before .before .before .before .before .before .before .width-at2 .ensures .0))
+    (c .before .before .before .before .before .before .before .before .before .before .before .before .before .before .before .before .before .before .read-be .ensures .0)
+    (c .before .before .before .before .before .before .before .before .before .before .before .before .before .before .before .before .before .read-be2 .ensures .0)
+    (c .before .before .before .before .before .before .before .before .before .before .before .before .before .before .before .before .read-be3 .ensures .0)
+    (c .before .before .before .before .before .before .before .before .before .before .before .before .before .before .before .read-be4 .ensures .0)
+    (c .new .ensures)
 
 pub header-in-spec : {M : Type 1} → statement M
 header-in-spec =
@@ -154,6 +145,4 @@ header-in-spec =
     bit-at-requires-7
     from-bit-requires-7
     new-requires
-    new-requires-2
-    new-requires-3
     returns)
