@@ -54,6 +54,23 @@ pub all-passed : {A : Type 0} (ts : List Test) (a : A) → Passed ts → firstOf
 all-passed [] a p = refl
 all-passed (t ∷ ts) a p = rw (p .0) (all-passed ts a (p .1))
 
+-- none of the tests says a refusal of that number
+abbrev pub NoneSays : ℕ → List Test → Type 0
+NoneSays n [] = Unit {0}
+NoneSays n (t ∷ ts) = (getD (t .says) 0 0 ≡ n → ⊥) × NoneSays n ts
+
+-- and so it comes from those behind them
+pub said-behind : {A : Type 0} (n : ℕ) (ms : List ℕ) (ts us : List Test) (a : A) → NoneSays n ts → firstOf (ts ++ us) a ≡ refused (n ∷ ms) → Passed ts × (firstOf us a ≡ refused (n ∷ ms))
+said-behind n ms [] us a q e = (tt, e)
+said-behind {A} n ms (t ∷ ts) us a q e = go (t .holds) refl e (λ d. said-behind n ms ts us a (q .1) d)
+  where
+    go : (c : Bool) → t .holds ≡ c → _≡_ {A = Answer A} (if c then refused (t .says) else firstOf (ts ++ us) a) (refused (n ∷ ms))
+        → (firstOf (ts ++ us) a ≡ refused (n ∷ ms) → Passed ts × (firstOf us a ≡ refused (n ∷ ms))) → Passed (t ∷ ts) × (firstOf us a ≡ refused (n ∷ ms))
+    go true p d rest =
+        let h : t .says ≡ n ∷ ms = cc in
+        absurd (q .0 (ap (λ (ns : List ℕ). getD ns 0 0) h))
+    go false p d rest = let r = rest d in ((p, r .0), r .1)
+
 -- no refusal is an acceptance
 module _ {A : Type 0} (ns : List ℕ) where
   pub told-no : (a : A) → told ns ≡ accepted a → ⊥

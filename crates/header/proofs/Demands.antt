@@ -2,21 +2,23 @@
 -- Assumes nothing.
 use Prim.Native.Nat.{ℕ, _+_, _^_, _<_}
 use mathlib.Core.Path.{_≡_, refl, sym, ap, _∙_}
-use mathlib.Core.Bool.{true}
-use mathlib.Core.List.{List, _++_}
+use mathlib.Core.Bool.{Bool, true, false}
+use mathlib.Core.List.{List, [], _∷_, _++_}
 use native.Mathlib.Omega.{arith}
-use lib.Dec.{lit<}
+use native.Mathlib.Nat.{le-refl}
+use lib.Dec.{ltb, lit<}
 use lib.ListN.{length, getD, take, drop}
 use lib.Seq.{getD-take}
 use borrow.Author.Tests.{not-false}
+use Rattle.fields.specs.Choice.{if_then_else_}
 use Rattle.fields.specs.Width.{isWidth}
 use Rattle.fields.specs.BigEndian.{Bytes}
-use Rattle.fields.specs.Answer.{Answer, accepted, leaves}
+use Rattle.fields.specs.Answer.{Answer, accepted, refused, firstOf, leaves}
 use Rattle.fields.specs.Staged.{run}
 use Rattle.fields.specs.Demand3.{AtMost}
 use Rattle.fields.proofs.Width.{lt-fits}
 use Rattle.fields.proofs.BigEndian.{bytes-take, number-lt}
-use Rattle.fields.proofs.Judging.{Passed}
+use Rattle.fields.proofs.Judging.{Passed, NoneSays, said-behind}
 use Rattle.fields.proofs.Staged.{passed-all, demand3}
 use Rattle.fields.proofs.OneToOne.{answerBack, told-back, one-to-one}
 use Rattle.header.specs.declared.PduHeader.{PduHeader}
@@ -25,13 +27,13 @@ use Rattle.header.specs.declared.HeaderResult.the-variants.{Header, Refu
 use Rattle.header.specs.declared.LengthResult.{LengthResult}
 use Rattle.header.specs.declared.LengthResult.the-variants.{Length, Refused as NoLength}
 use Rattle.header.specs.Answers.{headerAnswer, lengthAnswer}
-use Rattle.header.specs.Header.{headerBytes}
+use Rattle.header.specs.Header.{headerLength, headerBytes}
 use Rattle.header.specs.Judging.{recordTests, judging}
 use Rattle.header.specs.Reading.{entityWidthIn, sequenceWidthIn, headerLengthIn, headerIn, readingHeader}
-use Rattle.header.specs.Writing.{headerMemory}
-use Rattle.header.specs.Demands.{HeaderReadsBack, MemoryReadsBack, ReadIsSound, HeaderDemand3, OneHeaderResult, OneLengthResult}
+use Rattle.header.specs.Writing.{outputTests, writingHeader, headerMemory}
+use Rattle.header.specs.Demands.{HeaderReadsBack, MemoryReadsBack, ReadIsSound, NamedNeedIsEnough, HeaderDemand3, OneHeaderResult, OneLengthResult}
 use Rattle.header.proofs.Judging.{sound, all-right}
-use Rattle.header.proofs.Writing.{written-passed}
+use Rattle.header.proofs.Writing.{enough, written-passed}
 use Rattle.header.proofs.RoundTrip.{reads-back}
 
 -- ---- one answer
@@ -78,6 +80,27 @@ unfolding headerMemory
 memory-reads-back h s n small e =
     let m : headerMemory h s ≡ headerBytes h ++ drop (length (headerBytes h)) s = ap (λ (o : Answer ℕ). leaves o (λ (_ : ℕ). headerBytes h) s) e in
     ap (run readingHeader) m ∙ header-reads-back h (length s) n _ small e
+
+-- ---- C-02: the need that is named is enough
+
+-- of the tests of a record none says 11
+no-eleven : (h : PduHeader) → NoneSays 11 (recordTests h)
+unfolding recordTests
+no-eleven h = (λ e. omega arith, (λ e. omega arith, (λ e. omega arith, (λ e. omega arith, (λ e. omega arith, tt)))))
+
+pub named-need-is-enough : NamedNeedIsEnough
+unfolding writingHeader outputTests
+named-need-is-enough h room found need e = go (ltb room (headerLength h)) (p .1)
+  where
+    p : Passed (recordTests h) × (firstOf (outputTests h room) (headerLength h) ≡ refused (11 ∷ found ∷ need ∷ []))
+    p = said-behind 11 (found ∷ need ∷ []) (recordTests h) (outputTests h room) (headerLength h) (no-eleven h) e
+
+    go : (c : Bool) → _≡_ {A = Answer ℕ} (if c then refused (11 ∷ room ∷ headerLength h ∷ []) else accepted (headerLength h)) (refused (11 ∷ found ∷ need ∷ [])) → (found ≡ room) × (writingHeader h need ≡ accepted need)
+    go true d =
+        let f : found ≡ room = cc in
+        let n : need ≡ headerLength h = cc in
+        (f, rw n (sym (enough h (p .0) (headerLength h) (le-refl (headerLength h)))))
+    go false d = let z : _≡_ {A = ℕ} 0 1 = cc in absurd (omega arith)
 
 -- ---- demand 2: what was read is sound
 

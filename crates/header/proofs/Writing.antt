@@ -72,18 +72,13 @@ module _ (h : PduHeader) (good : Passed (recordTests h)) (room : ℕ) where
   unfolding writingHeader
   rest = passed-on (recordTests h) (outputTests h room) (headerLength h) good
 
-  pub short-of-four : room < 4 + entityWidth h + sequenceWidth h → told (11 ∷ room ∷ 4 ∷ []) ≡ writingHeader h room
+  pub short-of-h : room < headerLength h → told (11 ∷ room ∷ headerLength h ∷ []) ≡ writingHeader h room
   unfolding told outputTests
-  short-of-four l = rw (rest, lt-ltb _ _ l)
+  short-of-h l = rw (rest, lt-ltb _ _ l)
 
-  module _ (some : 4 + entityWidth h + sequenceWidth h ≤ room) where
-    pub short-of-h : room < headerLength h → told (11 ∷ room ∷ headerLength h ∷ []) ≡ writingHeader h room
-    unfolding told outputTests
-    short-of-h l = rw (rest, le-ltb _ _ some, lt-ltb _ _ l)
-
-    pub enough : headerLength h ≤ room → accepted (headerLength h) ≡ writingHeader h room
-    unfolding outputTests
-    enough l = rw (rest, le-ltb _ _ some, le-ltb _ _ l)
+  pub enough : headerLength h ≤ room → accepted (headerLength h) ≡ writingHeader h room
+  unfolding outputTests
+  enough l = rw (rest, le-ltb _ _ l)
 
 -- an accepted write: the record passed every test, and there is room
 pub written-passed : (h : PduHeader) (room n : ℕ) → accepted n ≡ writingHeader h room → Passed (recordTests h)
@@ -94,7 +89,7 @@ pub written-room : (h : PduHeader) (room n : ℕ) → accepted n ≡ writingHead
 unfolding outputTests
 written-room h room n e =
     let p = passed (outputTests h room) n (headerLength h) (e ∙ rest h (written-passed h room n e) room) in
-    ltb-false _ _ (p .0 .1 .0)
+    ltb-false _ _ (p .0 .0)
 
 -- and the buffer then has the header's bytes in front, the rest as it was
 pub accepted-write : (h : PduHeader) (s b : List ℕ) (n : ℕ) → accepted n ≡ writingHeader h (length s) → b ≡ headerBytes h ++ drop (headerLength h) s
@@ -111,8 +106,7 @@ unfolding headerLength
 with-length d f l h = refl
 
 pub header-stored : (h : PduHeader) (s b : List ℕ) → Passed (recordTests h) → headerLength h ≤ length s → b ≡ headerMemory h s → b ≡ sets s 0 (headerBytes h)
-unfolding headerLength
 header-stored h s b good room e =
-    let w = enough h good (length s) (omega arith) room in
+    let w = enough h good (length s) room in
     let l : 0 + length (headerBytes h) ≤ length s = omega (arith, header-length h) in
     e ∙ sym (accepted-write h s _ (headerLength h) w refl .1) ∙ ap (λ (k : ℕ). headerBytes h ++ drop k s) (sym (header-length h)) ∙ sym (sets-eq (headerBytes h) s 0 l ∙ rw zero-add)

@@ -2,10 +2,10 @@
 use Prim.Native.Nat.{ℕ, _^_, _<_}
 use mathlib.Core.Path.{_≡_}
 use mathlib.Core.Bool.{true}
-use mathlib.Core.List.{List, _++_}
+use mathlib.Core.List.{List, [], _∷_, _++_}
 use lib.ListN.{length}
 use Rattle.fields.specs.BigEndian.{Bytes}
-use Rattle.fields.specs.Answer.{accepted}
+use Rattle.fields.specs.Answer.{accepted, refused}
 use Rattle.fields.specs.Staged.{run}
 use Rattle.fields.specs.Demand3.{Demand3}
 use Rattle.header.specs.declared.PduHeader.{PduHeader}
@@ -29,6 +29,10 @@ MemoryReadsBack = (h : PduHeader) (s : List ℕ) (written : ℕ) → h .length <
 -- DEMAND 2: a header that was read from bytes passes the judgement of a record
 abbrev pub ReadIsSound : Type 0
 ReadIsSound = (s : List ℕ) (h : PduHeader) → Bytes s → run readingHeader s ≡ accepted h → judging h ≡ accepted h
+
+-- C-02: a buffer of just the bytes that refusal 11 named is not refused with 11, it is written: who grows to them asks at most twice
+abbrev pub NamedNeedIsEnough : Type 0
+NamedNeedIsEnough = (h : PduHeader) (room found need : ℕ) → writingHeader h room ≡ refused (11 ∷ found ∷ need ∷ []) → (found ≡ room) × (writingHeader h need ≡ accepted need)
 
 -- two headers that are the same share every flag, d, and the numbers of their identifiers
 pub record SameFields (a b : PduHeader) : Type 0 where

@@ -1,19 +1,16 @@
 -- Writing a header: the answer, and the buffer at exit.
-use Prim.Native.Nat.{ℕ, _+_}
+use Prim.Native.Nat.{ℕ}
 use mathlib.Core.List.{List, [], _∷_, _++_}
 use lib.Dec.{ltb}
 use lib.ListN.{length}
 use Rattle.fields.specs.Answer.{Answer, Test, when, firstOf, leaves}
 use Rattle.header.specs.declared.PduHeader.{PduHeader}
-use Rattle.header.specs.Header.{fixedLength, entityWidth, sequenceWidth, headerLength, headerBytes}
+use Rattle.header.specs.Header.{headerLength, headerBytes}
 use Rattle.header.specs.Judging.{recordTests}
 
--- 11: 'below 4 + e + s it needs 4 (the Rust's number), from there to below h it needs h'
+-- 11: 'it needs h for every buffer below h' (C-02)
 unfoldable pub outputTests : PduHeader → ℕ → List Test
-outputTests h room =
-    when (ltb room (fixedLength + entityWidth h + sequenceWidth h)) (11 ∷ room ∷ fixedLength ∷ [])
-    ∷ when (ltb room (headerLength h)) (11 ∷ room ∷ headerLength h ∷ [])
-    ∷ []
+outputTests h room = when (ltb room (headerLength h)) (11 ∷ room ∷ headerLength h ∷ []) ∷ []
 
 -- '3, 4, 14, then 11'; else the written length
 unfoldable pub writingHeader : PduHeader → ℕ → Answer ℕ

@@ -80,12 +80,6 @@ fn no_room(found: usize, expected: usize) -> LengthResult
     LengthResult::Refused(Refusal::ToSliceTooSmall { found, expected })
 }
 
-fn wide(width: u8) -> usize
-    ensures { λ r. ⌜ (r ≡ width) × (r < 256) ⌝ }
-{
-    width as usize
-}
-
 // The written length, or why a header cannot be written into so many bytes.
 fn writable(h: PduHeader, room: usize) -> LengthResult
     ensures { λ r. ⌜ lengthAnswer r ≡ writingHeader h room ⌝ }
@@ -94,12 +88,6 @@ fn writable(h: PduHeader, room: usize) -> LengthResult
     match judged {
         HeaderResult::Refused(refusal) => LengthResult::Refused(refusal),
         HeaderResult::Header(_) => {
-            let entity = wide(h.width);
-            let sequence = wide(h.sequence.0.width);
-            // The Rust asks for room without the destination, and then names the fixed bytes alone.
-            if room < FIXED_HEADER_LEN + entity + sequence {
-                return no_room(room, FIXED_HEADER_LEN);
-            }
             let len = h.header_len();
             if room < len {
                 return no_room(room, len);

@@ -102,11 +102,11 @@ fn fits(field: &Field) -> bool {
     field.width == 8 || field.value >> (8 * field.width) == 0
 }
 
-/// "for a header alone, a buffer below 4 + e + s or of at least h"
+/// "for a header alone, a buffer below 4 + e + s or of at least h"; since C-02 of at least h: below
+/// it the port names h, and the Rust names 4 or panics.
 fn header_room(record: &Record, room: usize) -> bool {
     let (entity, sequence) = (record.source.width, record.sequence.width);
-    let room = room as u64;
-    room < 4 + entity + sequence || room >= 4 + 2 * entity + sequence
+    room as u64 >= 4 + 2 * entity + sequence
 }
 
 /// "valid records with pairs that fit and scopes that fit the final file flag"; an odd count of
