@@ -31,3 +31,12 @@ checksumFrom r (b ∷ bs) = checksumFrom (byteStep r b) bs
 
 unfoldable pub checksumOf : List ℕ → ℕ
 checksumOf bs = checksumFrom start bs
+
+-- entry i of the table by which the code goes a byte at a time (request C-06): the remainder that eight bits give for i in the upper byte
+unfoldable pub entry : ℕ → ℕ
+entry i = bitSteps 8 (i * 256)
+
+-- the n entries from i on
+unfoldable pub entries : ℕ → ℕ → List ℕ
+entries zero i = []
+entries (suc n) i = entry i ∷ entries n (suc i)
