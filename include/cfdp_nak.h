@@ -113,7 +113,9 @@ void cfdp_nak_reserve(const uint8_t shape[10], const uint64_t ids[3], size_t pai
 void cfdp_nak_finish(const uint8_t shape[10], const uint64_t ids[3], size_t pairs, uint64_t start, uint64_t end,
                      uint8_t *buf, size_t buf_len, uint64_t answer[20]);
 
-/* How many pairs a NAK has at most in a packet of that many bytes, by the size alone: the count; or 13, 3, 4, 14, 15. */
+/* How many pairs a NAK has at most in a packet of that many bytes, and at most 8190 or 4094, by the large file flag: the count;
+   or 13, 3, 4, 14, 15. Into a buffer of that size a NAK of so many pairs of the flag's width is written, and one of more is
+   refused. */
 void cfdp_nak_most(const uint8_t shape[10], const uint64_t ids[3], size_t packet, uint64_t answer[20]);
 
 /* ---- comparing: nothing is written */

@@ -20,7 +20,7 @@ wrong() {
     printf '#!/bin/sh\n"%s/port" | sed "%s"\n' "$bin" "$2" > "$work/wrong"
     chmod +x "$work/wrong"
     compared "$1" "$work/cases" "$work/wrong" \
-        '53 commands: 46 compared, 7 outside the domain, 1 differing\n1\n'
+        '53 commands: 45 compared, 8 outside the domain, 1 differing\n1\n'
 }
 
 # Document 01's cases, without the three lines at the end, of which the last is no command.
@@ -30,11 +30,11 @@ head -n -3 "$here/smoke.txt" > "$work/cases"
 expect "own.txt" "$here/own.expected" "$work/seen"
 
 compared "document 01's cases" "$work/cases" "$bin/port" \
-    '53 commands: 46 compared, 7 outside the domain, 0 differing\n0\n'
+    '53 commands: 45 compared, 8 outside the domain, 0 differing\n0\n'
 compared "silent.txt" "$here/silent.txt" "$bin/port" \
     '34 commands: 4 compared, 15 outside the domain, 15 that the port lacks, 0 differing\n0\n'
 compared "a line that is no command" "$here/smoke.txt" "$bin/port" \
-    '55 commands: 47 compared, 8 outside the domain, 1 differing\n1\n'
+    '55 commands: 46 compared, 9 outside the domain, 1 differing\n1\n'
 
 # Line 6 asks a checksum, line 12 reads a buffer that is too short, line 49 writes a header.
 wrong "another checksum" '6s/65535/65534/'
@@ -54,14 +54,14 @@ replayed() {
 }
 
 "$bin/replay_list" > "$work/list" 2> "$work/said"
-replayed "replay list" "$work/list" "4050 replayed, 0 differ"
+replayed "replay list" "$work/list" "4066 replayed, 0 differ"
 # The byte at 100 is in an answer.
 {
     head -c 100 "$work/list"
     printf '\377'
     tail -c +102 "$work/list"
 } > "$work/changed"
-replayed "replay list with a wrong answer" "$work/changed" "4050 replayed, 1 differ"
+replayed "replay list with a wrong answer" "$work/changed" "4066 replayed, 1 differ"
 
 echo "$passed passed, $failed failed"
 [ "$failed" -eq 0 ]

@@ -1,4 +1,4 @@
-// Runs every published checksum vector that we know, document 01's cases, and cases of its rules; each is printed with where it comes from and what it gives.
+// Runs every published checksum vector that we know, document 01's cases, and cases of the rules of documents 01 and 02; each is printed with where it comes from and what it gives.
 use fields::EntityId;
 use fields::TransactionSeqNum;
 use fields::UnsignedByteField;
@@ -14,6 +14,8 @@ use header::TransmissionMode;
 use libc::STDOUT_FILENO;
 use nak::compare;
 use nak::compare::CompareResult;
+use nak::count;
+use nak::count::CountResult;
 use nak::reserve::ReserveResult;
 use nak::reserve::ReservedNak;
 use nak::write;
@@ -151,6 +153,13 @@ fn header(file: LargeFileFlag) -> PduHeader {
         source: EntityId(1),
         sequence: TransactionSeqNum(UnsignedByteField { width: 1, value: 2 }),
         destination: EntityId(3),
+    }
+}
+
+fn summed(file: LargeFileFlag) -> PduHeader {
+    PduHeader {
+        crc: CrcFlag::WithCrc,
+        ..header(file)
     }
 }
 
@@ -306,6 +315,66 @@ fn compares_n() {
     );
 }
 
+fn most(case: &[u8], size: usize, result: CountResult) {
+    io::write_all(STDOUT_FILENO, b"document 02, most requests, ");
+    io::write_all(STDOUT_FILENO, case);
+    io::write_all(STDOUT_FILENO, b", of ");
+    io::print_decimal(STDOUT_FILENO, size as u64);
+    io::write_all(STDOUT_FILENO, b" -> ");
+    match result {
+        CountResult::Refused(refusal) => {
+            listing::print_refusal(refusal);
+        }
+        CountResult::Count(n) => {
+            io::print_decimal(STDOUT_FILENO, n as u64);
+            io::write_all(STDOUT_FILENO, b"\n");
+        }
+    }
+}
+
+fn most_of_each(case: &[u8], h: PduHeader, sizes: &[usize]) {
+    let mut i = 0;
+    while i < sizes.len() {
+        let size = sizes[i];
+        most(case, size, count::calculate_max_segment_requests(size, h));
+        i += 1;
+    }
+}
+
+// The longest PDU, 65,535 + h; the size that misled the planner; the largest that there is.
+fn most_far(case: &[u8], h: PduHeader) {
+    most_of_each(case, h, &[65542, 100000, 18446744073709551615]);
+}
+
+// h is 7. Beside the least packet and one pair more, and beside the packet of as many pairs as a NAK has and one pair more.
+fn most_normal() {
+    let h = header(LargeFileFlag::Normal);
+    let sizes = [15, 16, 23, 24, 65535, 65536, 65543, 65544];
+    most_of_each(b"normal", h, &sizes);
+    most_far(b"normal", h);
+}
+
+fn most_normal_summed() {
+    let h = summed(LargeFileFlag::Normal);
+    let sizes = [17, 18, 25, 26, 65537, 65538, 65545, 65546];
+    most_of_each(b"normal with CRC", h, &sizes);
+    most_far(b"normal with CRC", h);
+}
+
+fn most_large() {
+    let h = header(LargeFileFlag::Large);
+    let sizes = [23, 24, 39, 40, 65527, 65528, 65543, 65544];
+    most_of_each(b"large", h, &sizes);
+    most_far(b"large", h);
+}
+
+fn most_large_summed() {
+    let h = summed(LargeFileFlag::Large);
+    let sizes = [25, 26, 41, 42, 65529, 65530, 65545, 65546];
+    most_of_each(b"large with CRC", h, &sizes);
+    most_far(b"large with CRC", h);
+}
+
 fn main() {
     checksums();
     readings();
@@ -315,4 +384,8 @@ fn main() {
     writes_n();
     finishes_n();
     compares_n();
+    most_normal();
+    most_normal_summed();
+    most_large();
+    most_large_summed();
 }

@@ -1,19 +1,30 @@
--- Most requests for a packet size: the answer at each exit.
+-- Most requests for a packet size: the answer at each exit, and that the writer accepts so many and no more.
 -- Assumes nothing.
 use Prim.Native.Nat.{ℕ, _+_, _-_, _*_, _/_, _≤_, _<_}
-use mathlib.Core.Path.{_≡_}
-use mathlib.Core.List.{List, [], _∷_}
+use mathlib.Core.Path.{_≡_, refl, sym, ap, _∙_}
+use mathlib.Core.Bool.{Bool, true, false}
+use mathlib.Core.List.{List, [], _∷_, _++_}
 use native.Mathlib.Omega.{arith}
-use borrow.Author.Tests.{lt-ltb, le-ltb}
+use lib.Dec.{ltb}
+use borrow.Author.Tests.{lt-ltb, le-ltb, ltb-true, ltb-false}
+use Rattle.fields.specs.Choice.{if_then_else_}
 use Rattle.fields.specs.Answer.{accepted, told, firstOf}
-use Rattle.fields.proofs.Judging.{Passed, passed-on}
+use Rattle.fields.proofs.Judging.{Passed, passed, passed-first, passed-last, passed-on}
 use Rattle.header.proofs.Judging.{refused-first}
+use Rattle.header.proofs.Writing.{with-length}
+use Rattle.header.proofs.Verifying.{pdu-sum}
 use Rattle.header.specs.declared.PduHeader.{PduHeader}
+use Rattle.header.specs.declared.flags.Direction.the-variants.{TowardsSender}
+use Rattle.header.specs.declared.flags.LargeFileFlag.{LargeFileFlag}
+use Rattle.header.specs.declared.flags.LargeFileFlag.the-variants.{Normal, Large}
 use Rattle.header.specs.Flags.{crcBit}
-use Rattle.header.specs.Header.{headerLength}
+use Rattle.header.specs.Header.{headerLength, pduLength}
 use Rattle.header.specs.Judging.{recordTests, judging}
+use Rattle.nak.specs.declared.write.NakWritten.{NakWritten}
 use Rattle.nak.specs.Nak.{offsetWidth, pairSize, areaStart}
-use Rattle.nak.specs.Counting.{leastPacket, packetTooSmall, mostRequests}
+use Rattle.nak.specs.Writing.{dataLength, mostPairs, filled, scopeFits, intoRoom, writingNak}
+use Rattle.nak.specs.Counting.{leastPacket, packetTooSmall, bySize, smaller, mostRequests, ofPairs, JustFit, MostRequestsFit}
+use Rattle.nak.proofs.Writing.{ToWrite, to-write, judged-nak, into-room}
 
 pub least-is : (h : PduHeader) (a w b : ℕ) → a ≡ headerLength h → w ≡ offsetWidth (h .file) → b ≡ crcBit (h .crc) → a + 1 + 2 * w + 2 * b ≡ leastPacket h
 unfolding leastPacket areaStart
@@ -24,7 +35,7 @@ unfolding mostRequests
 refused-count h size ns e = refused-first h (packetTooSmall h size ∷ []) _ ns e
 
 module _ (h : PduHeader) (size : ℕ) (good : Passed (recordTests h)) (least : ℕ) (is : least ≡ leastPacket h) where
-  rest : mostRequests h size ≡ firstOf (packetTooSmall h size ∷ []) ((size - leastPacket h) / pairSize (h .file))
+  rest : mostRequests h size ≡ firstOf (packetTooSmall h size ∷ []) (smaller (bySize h size) (mostPairs (h .file)))
   unfolding mostRequests
   rest = passed-on (recordTests h) _ _ good
 
@@ -32,5 +43,77 @@ module _ (h : PduHeader) (size : ℕ) (good : Passed (recordTests h)) (least : �
   unfolding told
   too-small l = rw (rest, ← is, lt-ltb _ _ l)
 
-  pub counted : (pair : ℕ) → pair ≡ pairSize (h .file) → least ≤ size → accepted ((size - least) / pair) ≡ mostRequests h size
-  counted pair p l = rw (rest, ← is, le-ltb _ _ l, ← p)
+  module _ (pair most : ℕ) (pp : pair ≡ pairSize (h .file)) (pm : most ≡ mostPairs (h .file)) (l : least ≤ size) where
+    pub limited : most < (size - least) / pair → accepted most ≡ mostRequests h size
+    limited k = rw (rest, ← is, le-ltb _ _ l, ← pp, ← pm, lt-ltb _ _ k)
+
+    pub counted : (size - least) / pair ≤ most → accepted ((size - least) / pair) ≡ mostRequests h size
+    counted k = rw (rest, ← is, le-ltb _ _ l, ← pp, ← pm, le-ltb _ _ k)
+
+-- ---- so many are accepted by the writer, and no more
+
+-- what is at most the smaller is at most both, and the other way round
+least-of-both : (a b m : ℕ) → m ≤ smaller a b → (m ≤ a) × (m ≤ b)
+least-of-both a b m l = go (ltb b a) refl l
+  where
+    go : (c : Bool) → ltb b a ≡ c → m ≤ (if c then b else a) → (m ≤ a) × (m ≤ b)
+    go true e k = (omega (arith, ltb-true b a e), k)
+    go false e k = (k, omega (arith, ltb-false b a e))
+
+both-at-least : (a b m : ℕ) → m ≤ a → m ≤ b → m ≤ smaller a b
+both-at-least a b m la lb = go (ltb b a)
+  where
+    go : (c : Bool) → m ≤ (if c then b else a)
+    go true = lb
+    go false = la
+
+-- m pairs fit so many bytes exactly where m is at most their quotient
+pairs-in : (file : LargeFileFlag) (n m : ℕ) → m ≤ n / pairSize file → m * pairSize file ≤ n
+pairs-in Normal n m l = omega arith
+pairs-in Large n m l = omega arith
+
+pairs-of : (file : LargeFileFlag) (n m : ℕ) → m * pairSize file ≤ n → m ≤ n / pairSize file
+pairs-of Normal n m l = omega arith
+pairs-of Large n m l = omega arith
+
+-- a NAK of m pairs has the bytes of one with none, and those of the pairs
+length-of : (h : PduHeader) (m : ℕ) → pduLength (filled (h .file) m h) ≡ leastPacket h + m * pairSize (h .file)
+unfolding leastPacket areaStart filled dataLength
+length-of h m =
+    let d = dataLength (h .file) (h .crc) m in
+    omega (arith, pdu-sum (filled (h .file) m h), with-length TowardsSender (h .file) d h)
+
+module _ (h : PduHeader) (start end size n : ℕ) (scope : scopeFits (h .file) start end ≡ true) (e : mostRequests h size ≡ accepted n) where
+  abbrev most-of : ℕ
+  most-of = smaller (bySize h size) (mostPairs (h .file))
+
+  -- the record is good, the size is not below the least, and the count is the smaller of both
+  counts : (Passed (recordTests h) × (leastPacket h ≤ size)) × (n ≡ most-of)
+  unfolding mostRequests
+  counts =
+      let p = passed (recordTests h ++ (packetTooSmall h size ∷ [])) n most-of (sym e) in
+      ((passed-first (recordTests h) (packetTooSmall h size ∷ []) (p .0), ltb-false _ _ (passed-last (recordTests h) (packetTooSmall h size ∷ []) (p .0) .0)), p .1)
+
+  fits : (m : ℕ) → m ≤ n → writingNak (h .file) h start end (2 * m) size ≡ accepted (ofPairs h m)
+  unfolding intoRoom
+  fits m l =
+      let c = counts in
+      let b = least-of-both (bySize h size) (mostPairs (h .file)) m (rw (c .1) at l) in
+      let half : (2 * m) / 2 ≡ m = omega arith in
+      let j = judged-nak (h .file) h start end (2 * m) (c .0 .0) (omega arith) scope (mostPairs (h .file)) refl (rw half (b .1)) in
+      let room : pduLength (filled (h .file) m h) ≤ size = omega (arith, length-of h m, pairs-in (h .file) (size - leastPacket h) m (b .0), c .0 .1) in
+      sym (into-room (h .file) h start end (2 * m) size (filled (h .file) m h) (ap (λ (k : ℕ). accepted (filled (h .file) k h)) (sym half) ∙ j))
+      ∙ rw (le-ltb _ _ room)
+
+  no-more : (m : ℕ) (w : NakWritten) → n < m → writingNak (h .file) h start end (2 * m) size ≡ accepted w → ⊥
+  no-more m w l d =
+      let z = to-write (h .file) h start end (2 * m) size w (sym d) in
+      let half : (2 * m) / 2 ≡ m = omega arith in
+      let is : w .header ≡ filled (h .file) m h = z .header-is ∙ ap (λ (k : ℕ). filled (h .file) k h) half in
+      let long : pduLength (filled (h .file) m h) ≤ size = omega (arith, z .room-is, z .length-is, ap pduLength is) in
+      let a = pairs-of (h .file) (size - leastPacket h) m (omega (arith, length-of h m, long)) in
+      let b : m ≤ mostPairs (h .file) = rw half at (z .fewer) in
+      omega (arith, both-at-least (bySize h size) (mostPairs (h .file)) m a b, counts .1)
+
+pub most-requests-fit : MostRequestsFit
+most-requests-fit h start end size n scope e = record { fit = fits h start end size n scope e; more = no-more h start end size n scope e }

@@ -1,7 +1,8 @@
-// How many requests a packet of a given size holds (the Rust's `calculate_max_segment_requests`).
+// How many requests a NAK has at most in a packet of a given size (the Rust's `calculate_max_segment_requests`).
 ghost use mathlib.Core.Path.{_≡_};
 ghost use Rattle.nak.specs.Counting.{countAnswer, mostRequests};
 use crate::offset_width;
+use crate::write;
 use fields::Refusal;
 use header::HeaderResult;
 use header::PduHeader;
@@ -26,7 +27,13 @@ pub fn calculate_max_segment_requests(size: usize, header: PduHeader) -> CountRe
             if size < least {
                 return CountResult::Refused(Refusal::TooSmallForPduHeader);
             }
-            CountResult::Count((size - least) / pair)
+            let by_size = (size - least) / pair;
+            // The Rust stops here, and its count may be one that no writer takes.
+            let most = write::most_pairs(file);
+            if most < by_size {
+                return CountResult::Count(most);
+            }
+            CountResult::Count(by_size)
         }
     }
 }

@@ -1,6 +1,8 @@
-//! Where port and Rust are compared: the section of document 01 with that name, and what its table
-//! calls the port's own. It is judged from the command alone, by neither side's answer.
+//! Where port and Rust are compared: the section of document 01 with that name, what its table calls
+//! the port's own, and where a request of document 02 departs from the Rust. It is judged from the
+//! command alone, by neither side's answer.
 use crate::command::{Command, Nak};
+use crate::make::{nak_len, pair_size};
 use crate::{Field, List, Record, Scope};
 
 const MAX_NORMAL_PAIRS: usize = 8190;
@@ -12,7 +14,8 @@ pub fn compared(command: &Command) -> Option<bool> {
     use Command::*;
     Some(match command {
         Crc(_) | Header(_) => true,
-        Build(record) | Verify(record, _) | Max(record, _) => judge(record, || true),
+        Build(record) | Verify(record, _) => judge(record, || true),
+        Max(record, size) => judge(record, || count_fits(record, *size)),
         WriteHeader(record, buf) => judge(record, || header_room(record, buf.len())),
         Read(bytes) => reading(bytes),
         Write(nak, _) => writing(nak),
@@ -129,6 +132,13 @@ fn pairs_fit(large: u8, pairs: usize) -> bool {
         } else {
             MAX_NORMAL_PAIRS
         }
+}
+
+/// C-08: "the smaller of that rule and 8,190 or 4,094", so the Rust is asked where its rule is the
+/// smaller.
+fn count_fits(record: &Record, size: usize) -> bool {
+    let behind = size.saturating_sub(nak_len(record, 0));
+    pairs_fit(record.large, behind / pair_size(record))
 }
 
 fn scope_fits(large: u8, scope: &Scope) -> bool {

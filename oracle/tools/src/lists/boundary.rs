@@ -142,20 +142,16 @@ fn reserve(random: &mut Random, out: &mut impl Write, nak: &Nak, pairs: usize) -
     Ok(())
 }
 
-/// Packet sizes beside the least that is accepted and beside one pair more.
+/// Packet sizes beside the least that is accepted, beside one pair more, beside as many pairs as fit
+/// and beside one pair more than these.
 pub fn sizes(random: &mut Random, out: &mut impl Write) -> Result<()> {
     for record in at_every_shape(random) {
-        let (least, f) = (nak_len(&record, 0), pair_size(&record));
+        let f = pair_size(&record);
+        let most = if record.large == 1 { 4094 } else { 8190 };
+        let (least, full) = (nak_len(&record, 0), nak_len(&record, most));
+        let near = [least, least + f, full, full + f].map(|size| size - 1..=size + 1);
         let far = [0, 65_536, usize::MAX, random.below(70_000) as usize];
-        let near = [
-            least - 1,
-            least,
-            least + 1,
-            least + f - 1,
-            least + f,
-            least + f + 1,
-        ];
-        for size in near.into_iter().chain(far) {
+        for size in near.into_iter().flatten().chain(far) {
             writeln!(out, "max {record} {size}")?;
         }
     }

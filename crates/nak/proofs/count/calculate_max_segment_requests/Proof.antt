@@ -4,7 +4,7 @@ use Prim.Native.Nat.{ℕ, _*_}
 use mathlib.Core.Path.{sym, ap, _∙_}
 use Rattle.header.specs.Answers.{headerAnswer}
 use Rattle.header.proofs.Judging.{passed-tests}
-use Rattle.nak.proofs.Counting.{least-is, refused-count, too-small, counted}
+use Rattle.nak.proofs.Counting.{least-is, refused-count, too-small, limited, counted}
 use borrow.Author.Needs.{needs}
 use Rattle.nak.proofs.count.calculate_max_segment_requests.Statement.{statement}
 use Rattle.nak.proofs.count.calculate_max_segment_requests.Tie as tie
@@ -46,19 +46,25 @@ add-least-3 : tie.Need-add-least-3
 add-least-3 c = search needs
 
 returns : tie.Need-returns
-returns c =
-    too-small _ _ (passed-tests _ _ (ap headerAnswer (sym (c .before .before .before .before .enum-told .given .1)) ∙ c .before .before .before .before .before .before .judged .ensures)) _ (least-is _ _ _ _ (c .before .before .header-len .ensures .0) (c .before .before .before .offset-width .ensures .0) (c .before .bit .ensures .0)) (c .if1 .taken)
+returns c = too-small _ _ (passed-tests _ _ (ap headerAnswer (sym (c .before .before .before .before .enum-told .given .1)) ∙ c .before .before .before .before .before .before .judged .ensures)) _ (least-is _ _ _ _ (c .before .before .header-len .ensures .0) (c .before .before .before .offset-width .ensures .0) (c .before .bit .ensures .0)) (c .if1 .taken)
 
-div-t11 : tie.Need-div-t11
-div-t11 c = search needs
+div-by-size : tie.Need-div-by-size
+div-by-size c = search needs
+
+most-pairs-requires : tie.Need-most-pairs-requires
+most-pairs-requires c κs = search needs
 
 returns-2 : tie.Need-returns-2
 returns-2 c =
-    refused-count _ _ _ (ap headerAnswer (sym (c .before .judged2 .given .1)) ∙ c .before .before .before .judged .ensures)
+    limited _ _ (passed-tests _ _ (ap headerAnswer (sym (c .before .before .before .before .before .before .enum-told .given .1)) ∙ c .before .before .before .before .before .before .before .before .judged .ensures)) _ (least-is _ _ _ _ (c .before .before .before .before .header-len .ensures .0) (c .before .before .before .before .before .offset-width .ensures .0) (c .before .before .before .bit .ensures .0)) _ _ (ap (λ (n : ℕ). 2 * n) (c .before .before .before .before .before .offset-width .ensures .0)) (c .before .most-pairs .ensures) (c .before .before .if1 .left) (c .if2 .taken)
 
 returns-3 : tie.Need-returns-3
 returns-3 c =
-    counted _ _ (passed-tests _ _ (ap headerAnswer (sym (c .before .before .before .before .enum-told .given .1)) ∙ c .before .before .before .before .before .before .judged .ensures)) _ (least-is _ _ _ _ (c .before .before .header-len .ensures .0) (c .before .before .before .offset-width .ensures .0) (c .before .bit .ensures .0)) _ (ap (λ (n : ℕ). 2 * n) (c .before .before .before .offset-width .ensures .0)) (c .if1 .left)
+    refused-count _ _ _ (ap headerAnswer (sym (c .before .judged2 .given .1)) ∙ c .before .before .before .judged .ensures)
+
+returns-4 : tie.Need-returns-4
+returns-4 c =
+    counted _ _ (passed-tests _ _ (ap headerAnswer (sym (c .before .before .before .before .before .before .enum-told .given .1)) ∙ c .before .before .before .before .before .before .before .before .judged .ensures)) _ (least-is _ _ _ _ (c .before .before .before .before .header-len .ensures .0) (c .before .before .before .before .before .offset-width .ensures .0) (c .before .before .before .bit .ensures .0)) _ _ (ap (λ (n : ℕ). 2 * n) (c .before .before .before .before .before .offset-width .ensures .0)) (c .before .most-pairs .ensures) (c .before .before .if1 .left) (c .if2 .left)
 
 pub calculate-max-segment-requests-spec : {M : Type 1} → statement M
 calculate-max-segment-requests-spec =
@@ -77,6 +83,8 @@ calculate-max-segment-requests-spec =
     mul-least
     add-least-3
     returns
-    div-t11
+    div-by-size
+    most-pairs-requires
     returns-2
-    returns-3)
+    returns-3
+    returns-4)
