@@ -30,7 +30,7 @@ pduBytes h = do
 unfoldable pub verifyingRead : PduHeader → Staged ℕ
 verifyingRead h = pduBytes h >> accept (dataEnd h)
 
--- of any record: 13, 3, 4, 14, then those, else E
+-- of any record: 3, 4, 14 (13 is given where it is built, C-12), then those, else E
 unfoldable pub verifying : PduHeader → Staged ℕ
 verifying h = tests (recordTests h) >> verifyingRead h
 

@@ -37,7 +37,7 @@ bySize h size = (size - leastPacket h) / pairSize (h .file)
 abbrev pub smaller : ℕ → ℕ → ℕ
 smaller a b = if ltb b a then b else a
 
--- '13, 3, 4, 14, 15'; otherwise 'the smaller of that rule and 8,190 or 4,094'
+-- '3, 4, 14, 15' (13 is given where a record is built, C-12); otherwise 'the smaller of that rule and 8,190 or 4,094'
 unfoldable pub mostRequests : PduHeader → ℕ → Answer ℕ
 mostRequests h size = firstOf (recordTests h ++ (packetTooSmall h size ∷ [])) (smaller (bySize h size) (mostPairs (h .file)))
 

@@ -18,7 +18,7 @@ abbrev pub reserveAnswer : ReserveResult → Answer ReservedNak
 reserveAnswer (Reserved r) = accepted r
 reserveAnswer (Refused r) = told (paper r)
 
--- '13, 3, 4, 14, 10' of n pairs: reserving and finishing begin with these
+-- '3, 4, 14, 10' of n pairs (13 is given where a record is built, C-12): reserving and finishing begin with these
 unfoldable pub pairTests : PduHeader → ℕ → List Test
 pairTests h n = recordTests h ++ (tooMany (h .file) n ∷ [])
 
@@ -36,13 +36,13 @@ judgingPairs h n = firstOf (pairTests h n) (keeping h n)
 abbrev pub placed : PduHeader → ℕ → ReservedNak
 placed w n = record { header = w; count = n; area = areaStart w; stop = dataEnd w }
 
--- 'Reserving: 13, 3, 4, 14, 10, 11'
+-- 'Reserving: 3, 4, 14, 10, 11'
 unfoldable pub reserving : PduHeader → ℕ → ℕ → Answer ReservedNak
 reserving h n room = firstOf (pairTests h n ++ (noRoom room (keeping h n) ∷ [])) (placed (keeping h n) n)
 
 -- ---- finishing: direction and length are worked out anew from the record's flags, widths and pair count
 
--- '13, 3, 4, 14, 10, 9, 11'
+-- '3, 4, 14, 10, 9, 11'
 unfoldable pub finishing : ReservedNak → ℕ → ℕ → ℕ → Answer NakWritten
 finishing r start end room =
     let h = r .header in
