@@ -38,6 +38,7 @@
      13          source and destination widths differ            source's, destination's
      14          value does not fit its width                    value, width
      15          packet too small for a NAK with no pair         none
+     21          not a directive: PDU type 1, file data          none
 
    Limits: a PDU has at most 28 + 65535 bytes, a NAK at most 8190 normal or 4094 large pairs. */
 #ifndef CFDP_NAK_H
@@ -74,7 +75,7 @@ void cfdp_header_verify(const uint8_t shape[10], uint16_t data_length, const uin
 /* ---- reading a NAK */
 
 /* Reads a NAK at the front of the bytes: HEADER, start and end of scope, where its request area starts, where it (and the
-   data) ends, how many whole pairs it holds; or 1 to 8. The area is bytes + answer[17], of answer[18] - answer[17] bytes. */
+   data) ends, how many whole pairs it holds; or 1 to 8, 21. The area is bytes + answer[17], of answer[18] - answer[17] bytes. */
 void cfdp_nak_read(const uint8_t *bytes, size_t bytes_len, uint64_t answer[20]);
 
 /* The pair of an index in a request area, counted from 0, its numbers of 8 bytes (large) or 4: start and end in pair; false
@@ -87,12 +88,13 @@ size_t cfdp_nak_pairs(const uint8_t *area, size_t area_len, bool large, uint64_t
 
 /* ---- writing a NAK: direction and length are worked out, and handed back in the header; start above end is accepted */
 
-/* Writes a NAK with no list of pairs, the large file flag as given: HEADER, the written length; or 13, 3, 4, 14, 9, 11. */
+/* Writes a NAK with no list of pairs, the large file flag as given: HEADER, the written length; or 13, 3, 4, 14, 21, 9,
+   11. */
 void cfdp_nak_write(const uint8_t shape[10], const uint64_t ids[3], uint64_t start, uint64_t end, uint8_t *buf,
                     size_t buf_len, uint64_t answer[20]);
 
 /* Writes a NAK with normal pairs, start and end by turns, which clear the large file flag, even none of them: HEADER, the
-   written length; or 13, 3, 4, 14, 12, 9, 10, 11. */
+   written length; or 13, 3, 4, 14, 21, 12, 9, 10, 11. */
 void cfdp_nak_write_normal(const uint8_t shape[10], const uint64_t ids[3], uint64_t start, uint64_t end,
                            const uint32_t *numbers, size_t count, uint8_t *buf, size_t buf_len, uint64_t answer[20]);
 
@@ -103,18 +105,18 @@ void cfdp_nak_write_large(const uint8_t shape[10], const uint64_t ids[3], uint64
 /* ---- reserving room for pairs, and finishing the NAK around them */
 
 /* Reserves room for that many pairs in buf and changes no byte, the large file flag as given: HEADER, the pairs, where the
-   request area starts, where it ends, the length that the NAK will have; or 13, 3, 4, 14, 10, 11. The caller stores the
+   request area starts, where it ends, the length that the NAK will have; or 13, 3, 4, 14, 21, 10, 11. The caller stores the
    pairs' numbers big-endian, 8 bytes each with the flag, else 4, from buf + answer[16] up to buf + answer[17]. */
 void cfdp_nak_reserve(const uint8_t shape[10], const uint64_t ids[3], size_t pairs, const uint8_t *buf, size_t buf_len,
                       uint64_t answer[20]);
 
 /* Writes header, directive, scope and checksum around the pairs that the caller stored, given what reserving was given, which
-   is judged anew: HEADER, the written length; or 13, 3, 4, 14, 10, 9, 11. */
+   is judged anew: HEADER, the written length; or 13, 3, 4, 14, 21, 10, 9, 11. */
 void cfdp_nak_finish(const uint8_t shape[10], const uint64_t ids[3], size_t pairs, uint64_t start, uint64_t end,
                      uint8_t *buf, size_t buf_len, uint64_t answer[20]);
 
 /* How many pairs a NAK has at most in a packet of that many bytes, and at most 8190 or 4094, by the large file flag: the count;
-   or 13, 3, 4, 14, 15. Into a buffer of that size a NAK of so many pairs of the flag's width is written, and one of more is
+   or 13, 3, 4, 14, 21, 15. Into a buffer of that size a NAK of so many pairs of the flag's width is written, and one of more is
    refused. */
 void cfdp_nak_most(const uint8_t shape[10], const uint64_t ids[3], size_t packet, uint64_t answer[20]);
 

@@ -1,6 +1,6 @@
 #!/usr/bin/env python3
 """Document 01's rules for checksum, header and NAK reading, written a second time and held against
-the Rust's answers to a list of commands:
+the Rust's answers to a list of commands, except where document 02's C-05 gives file data refusal 21:
 
     document01.py COMMANDS ANSWERS
 
@@ -54,6 +54,10 @@ def header(b):
     return None, (h, d, bits[3], bits[4], rec)
 
 
+def file_data(b):
+    return b[0] >> 4 & 1 == 1
+
+
 def reading(b):
     """(whether the two are compared, refusal or None, text if accepted)."""
     refused, parts = header(b)
@@ -66,7 +70,7 @@ def reading(b):
     if crc and checksum(b[:p]) != 0:
         return True, (5, number(b, p - 2, 2)), None
     end = p - 2 * crc
-    compared = not 9 <= end < h + 1 + f
+    compared = end < 9 or not file_data(b) and h + 1 + f <= end
     for refusal, holds in [
         ((1, len(b), 9), len(b) < 9),
         ((6, end, 9), end < 9),
@@ -110,7 +114,7 @@ def main():
             compared, refused, text = expected(name, b)
             if not compared:
                 count["outside"] += 1
-                count["accepted outside"] += seen.startswith("ok")
+                count["accepted outside"] += seen.startswith("ok") and not file_data(b)
                 count["differ"] += word != "out"
                 continue
             count["inside"] += 1

@@ -113,8 +113,9 @@ fn vector(source: &[u8], s: &[u8]) {
     );
 }
 
-fn reading(bytes: &[u8]) {
-    io::write_all(STDOUT_FILENO, b"document 01, reading: ");
+fn reading(document: &[u8], bytes: &[u8]) {
+    io::write_all(STDOUT_FILENO, document);
+    io::write_all(STDOUT_FILENO, b", reading: ");
     print_bytes(bytes);
     io::write_all(STDOUT_FILENO, b"->\n");
     listing::list(bytes);
@@ -133,9 +134,9 @@ fn checksums() {
 
 fn readings() {
     let longer = LONGER;
-    reading(&longer);
+    reading(b"document 01", &longer);
     let n = N;
-    reading(&n[..20]);
+    reading(b"document 01", &n[..20]);
 }
 
 // A header of widths 1, with the identifiers and the number of N.
@@ -165,6 +166,10 @@ fn summed(file: LargeFileFlag) -> PduHeader {
 
 fn writing(case: &[u8], result: WriteResult) {
     io::write_all(STDOUT_FILENO, b"document 01, writing: ");
+    written(case, result);
+}
+
+fn written(case: &[u8], result: WriteResult) {
     io::write_all(STDOUT_FILENO, case);
     io::write_all(STDOUT_FILENO, b" -> ");
     match result {
@@ -241,7 +246,7 @@ fn writes_n() {
         b"N",
         write::write_normal_file_size(h, 0, 1000, &numbers, &mut buf),
     );
-    reading(&buf);
+    reading(b"document 01", &buf);
 }
 
 // A buffer one byte short is refused, and keeps every byte.
@@ -375,6 +380,47 @@ fn most_large_summed() {
     most_far(b"large with CRC", h);
 }
 
+// N with the bit of the PDU type set: 21. With a checksum that bit shows as damage: 5.
+fn reads_file_data() {
+    let mut n = N;
+    n[0] = 0x38;
+    reading(b"document 02", &n);
+    let numbers = [100u32, 200u32];
+    let mut buf = [0u8; 26];
+    let h = summed(LargeFileFlag::Normal);
+    write::write_normal_file_size(h, 0, 1000, &numbers, &mut buf);
+    buf[0] = 0x3A;
+    reading(b"document 02", &buf);
+}
+
+// 21 stands before 12 in writing, before 10 in finishing, before 15 in counting.
+fn writes_file_data() {
+    let numbers = [100u32, 200u32, 300u32];
+    let mut buf = [0xEEu8; 3];
+    let h = PduHeader {
+        kind: PduType::FileData,
+        ..header(LargeFileFlag::Normal)
+    };
+    io::write_all(STDOUT_FILENO, b"document 02, writing: ");
+    written(
+        b"file data, three numbers",
+        write::write_normal_file_size(h, 0, 1000, &numbers, &mut buf),
+    );
+    let reserved = ReservedNak {
+        header: h,
+        count: 8191,
+        area: 16,
+        stop: 24,
+    };
+    io::write_all(STDOUT_FILENO, b"document 02, finishing: ");
+    written(
+        b"file data, 8,191 pairs",
+        reserved.finish(0, 1000, &mut buf),
+    );
+    left(&buf);
+    most(b"file data", 3, count::calculate_max_segment_requests(3, h));
+}
+
 fn main() {
     checksums();
     readings();
@@ -388,4 +434,6 @@ fn main() {
     most_normal_summed();
     most_large();
     most_large_summed();
+    reads_file_data();
+    writes_file_data();
 }

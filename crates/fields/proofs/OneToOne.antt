@@ -10,7 +10,7 @@ use Rattle.fields.specs.Choice.{if_then_else_}
 use Rattle.fields.specs.Answer.{Answer, accepted, short, refused, told}
 use Rattle.fields.specs.Refusal.{paper, numbersOf, listed}
 use Rattle.fields.specs.declared.refusal.Refusal.{Refusal}
-use Rattle.fields.specs.declared.refusal.Refusal.the-variants.{FromSliceTooSmall, CfdpVersionMissmatch, InvalidEntityLen, InvalidTransactionSeqNumLen, Checksum, DataFieldTooSmall, InvalidDirectiveType, WrongDirectiveType, InvalidStartOrEndOfScope, TooManySegmentRequests, ToSliceTooSmall, OddCount, SourceDestIdLenMissmatch, ValueTooLargeForWidth, TooSmallForPduHeader}
+use Rattle.fields.specs.declared.refusal.Refusal.the-variants.{FromSliceTooSmall, CfdpVersionMissmatch, InvalidEntityLen, InvalidTransactionSeqNumLen, Checksum, DataFieldTooSmall, InvalidDirectiveType, WrongDirectiveType, InvalidStartOrEndOfScope, TooManySegmentRequests, ToSliceTooSmall, OddCount, SourceDestIdLenMissmatch, ValueTooLargeForWidth, TooSmallForPduHeader, NotADirective}
 
 -- what has a way back is one-to-one
 pub one-to-one : {R S : Type 0} (f : R → S) (g : S → R) → ((r : R) → g (f r) ≡ r) → (a b : R) → f a ≡ f b → a ≡ b
@@ -33,7 +33,8 @@ refusalOf ns =
     else if eqb (getD ns 0 0) 12 then OddCount (getD ns 1 0)
     else if eqb (getD ns 0 0) 13 then SourceDestIdLenMissmatch (getD ns 1 0) (getD ns 2 0)
     else if eqb (getD ns 0 0) 14 then ValueTooLargeForWidth (getD ns 1 0) (getD ns 2 0)
-    else TooSmallForPduHeader
+    else if eqb (getD ns 0 0) 15 then TooSmallForPduHeader
+    else NotADirective
 
 back : (r : Refusal) → refusalOf (paper r) ≡ r
 unfolding refusalOf
@@ -52,6 +53,7 @@ back (OddCount n) = refl
 back (SourceDestIdLenMissmatch a b) = refl
 back (ValueTooLargeForWidth v w) = refl
 back TooSmallForPduHeader = refl
+back NotADirective = refl
 
 -- no two refusals have the same number and values
 pub paper-one-to-one : (a b : Refusal) → paper a ≡ paper b → a ≡ b
@@ -74,6 +76,7 @@ numbers-paper (OddCount n) = refl
 numbers-paper (SourceDestIdLenMissmatch a b) = refl
 numbers-paper (ValueTooLargeForWidth v w) = refl
 numbers-paper TooSmallForPduHeader = refl
+numbers-paper NotADirective = refl
 
 -- ---- an answer that is an enum of what is accepted and a refusal, back from document 01's terms
 

@@ -1,9 +1,9 @@
--- Document 01's table, 'What is answered': the number of each refusal, and then the numbers that it returns.
+-- Document 01's table, 'What is answered', with the refusals that document 02 adds: the number of each refusal, and then the numbers that it returns.
 use Prim.Native.Nat.{ℕ, _-_}
 use mathlib.Core.List.{List, [], _∷_}
 use lib.ListN.{length, getD, take}
 use Rattle.fields.specs.declared.refusal.Refusal.{Refusal}
-use Rattle.fields.specs.declared.refusal.Refusal.the-variants.{FromSliceTooSmall, CfdpVersionMissmatch, InvalidEntityLen, InvalidTransactionSeqNumLen, Checksum, DataFieldTooSmall, InvalidDirectiveType, WrongDirectiveType, InvalidStartOrEndOfScope, TooManySegmentRequests, ToSliceTooSmall, OddCount, SourceDestIdLenMissmatch, ValueTooLargeForWidth, TooSmallForPduHeader}
+use Rattle.fields.specs.declared.refusal.Refusal.the-variants.{FromSliceTooSmall, CfdpVersionMissmatch, InvalidEntityLen, InvalidTransactionSeqNumLen, Checksum, DataFieldTooSmall, InvalidDirectiveType, WrongDirectiveType, InvalidStartOrEndOfScope, TooManySegmentRequests, ToSliceTooSmall, OddCount, SourceDestIdLenMissmatch, ValueTooLargeForWidth, TooSmallForPduHeader, NotADirective}
 use Rattle.fields.specs.declared.refusal.RefusalNumbers.{RefusalNumbers}
 
 abbrev pub paper : Refusal → List ℕ
@@ -22,6 +22,7 @@ paper (OddCount count) = 12 ∷ count ∷ []
 paper (SourceDestIdLenMissmatch source destination) = 13 ∷ source ∷ destination ∷ []
 paper (ValueTooLargeForWidth value width) = 14 ∷ value ∷ width ∷ []
 paper TooSmallForPduHeader = 15 ∷ []
+paper NotADirective = 21 ∷ []
 
 -- the same as a record of fixed size: the number, how many values there are, and these; a value that there is not is 0
 abbrev pub numbersOf : Refusal → RefusalNumbers

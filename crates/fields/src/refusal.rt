@@ -1,8 +1,8 @@
-// The refusals of document 01, a variant for each number of its table, and their numbers for printing.
+// The refusals of document 01, a variant for each number of its table and for those that document 02 adds, and their numbers for printing.
 ghost use mathlib.Core.Path.{_≡_};
 ghost use Rattle.fields.specs.Refusal.{numbersOf};
 
-// Names are the Rust's, where the Rust has one; the names of 6, 10 and 12 are the port's own.
+// Names are the Rust's, where the Rust has one; the names of 6, 10, 12 and 21 are the port's own.
 pub enum Refusal {
     // 1: buffer short.
     FromSliceTooSmall { found: usize, expected: usize },
@@ -34,6 +34,8 @@ pub enum Refusal {
     ValueTooLargeForWidth { value: u64, width: u8 },
     // 15: packet size below h + 1 + F, plus 2 with CRC.
     TooSmallForPduHeader,
+    // 21: not a directive: a PDU of type 1, file data.
+    NotADirective,
 }
 
 // A refusal as document 01 prints it: its number, how many values it returns, and these; a value that it does not
@@ -43,6 +45,17 @@ pub struct RefusalNumbers {
     pub count: u8,
     pub first: u64,
     pub second: u64,
+}
+
+fn none(number: u8) -> RefusalNumbers
+    ensures { λ r. ⌜ r ≡ record { number = number; count = 0; first = 0; second = 0 } ⌝ }
+{
+    RefusalNumbers {
+        number,
+        count: 0,
+        first: 0,
+        second: 0,
+    }
 }
 
 fn one(number: u8, first: u64) -> RefusalNumbers
@@ -89,12 +102,8 @@ impl Refusal {
                 destination,
             } => two(13, source as u64, destination as u64),
             Refusal::ValueTooLargeForWidth { value, width } => two(14, value, width as u64),
-            Refusal::TooSmallForPduHeader => RefusalNumbers {
-                number: 15,
-                count: 0,
-                first: 0,
-                second: 0,
-            },
+            Refusal::TooSmallForPduHeader => none(15),
+            Refusal::NotADirective => none(21),
         }
     }
 }

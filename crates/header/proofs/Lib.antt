@@ -4,6 +4,7 @@ pub mod Judging
 pub mod Reading
 pub mod Writing
 pub mod Verifying
+pub mod Directives
 pub mod Comparing
 pub mod RoundTrip
 pub mod Demands

@@ -6,5 +6,6 @@ pub mod Judging
 pub mod Reading
 pub mod Writing
 pub mod Verifying
+pub mod Directive
 pub mod Comparing
 pub mod Demands

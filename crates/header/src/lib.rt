@@ -8,6 +8,7 @@ use fields::TransactionSeqNum;
 use fields::UnsignedByteField;
 
 pub mod compare;
+pub mod directive;
 pub mod flags;
 pub mod judge;
 pub mod read;

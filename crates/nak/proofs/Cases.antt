@@ -7,6 +7,7 @@ use Rattle.fields.specs.Checksum.{bitStep, bitSteps, byteStep, checksumFrom, ch
 use Rattle.header.specs.Header.{headerLength, pduLength, dataEnd}
 use Rattle.header.specs.Reading.{isSet, headerIn, readingHeader}
 use Rattle.header.specs.Verifying.{pduBytes}
+use Rattle.header.specs.Directive.{directivePart, directiveBytes}
 use Rattle.nak.specs.Directive.{isKnown}
 use Rattle.nak.specs.Nak.{areaStart, nakIn}
 use Rattle.nak.specs.Reading.{readingScope, readingDirective, readingData, readingNak}
@@ -14,9 +15,9 @@ use Rattle.nak.specs.Requests.{areaOf, pairsOf}
 use Rattle.nak.specs.Demands.{StarredCases, FourAreHeard}
 
 pub starred-cases : StarredCases
-unfolding isWidth beFrom beValue numberAt bitStep bitSteps byteStep checksumFrom checksumOf headerLength pduLength dataEnd isSet headerIn readingHeader pduBytes isKnown areaStart nakIn readingScope readingDirective readingData readingNak areaOf pairsOf
+unfolding isWidth beFrom beValue numberAt bitStep bitSteps byteStep checksumFrom checksumOf headerLength pduLength dataEnd isSet headerIn readingHeader pduBytes directivePart directiveBytes isKnown areaStart nakIn readingScope readingDirective readingData readingNak areaOf pairsOf
 starred-cases = refl
 
 pub four-are-heard : FourAreHeard
-unfolding isWidth beFrom beValue numberAt bitStep bitSteps byteStep checksumFrom checksumOf headerLength pduLength dataEnd isSet headerIn readingHeader pduBytes isKnown areaStart nakIn readingScope readingDirective readingData readingNak
+unfolding isWidth beFrom beValue numberAt bitStep bitSteps byteStep checksumFrom checksumOf headerLength pduLength dataEnd isSet headerIn readingHeader pduBytes directivePart directiveBytes isKnown areaStart nakIn readingScope readingDirective readingData readingNak
 four-are-heard = refl

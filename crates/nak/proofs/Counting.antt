@@ -10,7 +10,7 @@ use borrow.Author.Tests.{lt-ltb, le-ltb, ltb-true, ltb-false}
 use Rattle.fields.specs.Choice.{if_then_else_}
 use Rattle.fields.specs.Answer.{accepted, told, firstOf}
 use Rattle.fields.proofs.Judging.{Passed, passed, passed-first, passed-last, passed-on}
-use Rattle.header.proofs.Judging.{refused-first}
+use Rattle.header.proofs.Directives.{refused-directive}
 use Rattle.header.proofs.Writing.{with-length}
 use Rattle.header.proofs.Verifying.{pdu-sum}
 use Rattle.header.specs.declared.PduHeader.{PduHeader}
@@ -19,7 +19,7 @@ use Rattle.header.specs.declared.flags.LargeFileFlag.{LargeFileFlag}
 use Rattle.header.specs.declared.flags.LargeFileFlag.the-variants.{Normal, Large}
 use Rattle.header.specs.Flags.{crcBit}
 use Rattle.header.specs.Header.{headerLength, pduLength}
-use Rattle.header.specs.Judging.{recordTests, judging}
+use Rattle.header.specs.Directive.{directiveTests, judgingDirective}
 use Rattle.nak.specs.declared.write.NakWritten.{NakWritten}
 use Rattle.nak.specs.Nak.{offsetWidth, pairSize, areaStart}
 use Rattle.nak.specs.Writing.{dataLength, mostPairs, filled, scopeFits, intoRoom, writingNak}
@@ -30,14 +30,14 @@ pub least-is : (h : PduHeader) (a w b : ℕ) → a ≡ headerLength h → w ≡ 
 unfolding leastPacket areaStart
 least-is h a w b p q r = rw (p, q, r)
 
-pub refused-count : (h : PduHeader) (size : ℕ) (ns : List ℕ) → told ns ≡ judging h → told ns ≡ mostRequests h size
+pub refused-count : (h : PduHeader) (size : ℕ) (ns : List ℕ) → told ns ≡ judgingDirective h → told ns ≡ mostRequests h size
 unfolding mostRequests
-refused-count h size ns e = refused-first h (packetTooSmall h size ∷ []) _ ns e
+refused-count h size ns e = refused-directive h (packetTooSmall h size ∷ []) _ ns e
 
-module _ (h : PduHeader) (size : ℕ) (good : Passed (recordTests h)) (least : ℕ) (is : least ≡ leastPacket h) where
+module _ (h : PduHeader) (size : ℕ) (good : Passed (directiveTests h)) (least : ℕ) (is : least ≡ leastPacket h) where
   rest : mostRequests h size ≡ firstOf (packetTooSmall h size ∷ []) (smaller (bySize h size) (mostPairs (h .file)))
   unfolding mostRequests
-  rest = passed-on (recordTests h) _ _ good
+  rest = passed-on (directiveTests h) _ _ good
 
   pub too-small : size < least → told (15 ∷ []) ≡ mostRequests h size
   unfolding told
@@ -88,11 +88,11 @@ module _ (h : PduHeader) (start end size n : ℕ) (scope : scopeFits (h .file) s
   most-of = smaller (bySize h size) (mostPairs (h .file))
 
   -- the record is good, the size is not below the least, and the count is the smaller of both
-  counts : (Passed (recordTests h) × (leastPacket h ≤ size)) × (n ≡ most-of)
+  counts : (Passed (directiveTests h) × (leastPacket h ≤ size)) × (n ≡ most-of)
   unfolding mostRequests
   counts =
-      let p = passed (recordTests h ++ (packetTooSmall h size ∷ [])) n most-of (sym e) in
-      ((passed-first (recordTests h) (packetTooSmall h size ∷ []) (p .0), ltb-false _ _ (passed-last (recordTests h) (packetTooSmall h size ∷ []) (p .0) .0)), p .1)
+      let p = passed (directiveTests h ++ (packetTooSmall h size ∷ [])) n most-of (sym e) in
+      ((passed-first (directiveTests h) (packetTooSmall h size ∷ []) (p .0), ltb-false _ _ (passed-last (directiveTests h) (packetTooSmall h size ∷ []) (p .0) .0)), p .1)
 
   fits : (m : ℕ) → m ≤ n → writingNak (h .file) h start end (2 * m) size ≡ accepted (ofPairs h m)
   unfolding intoRoom

@@ -16,9 +16,10 @@ use Rattle.fields.proofs.OneToOne.{answerBack, told-back, one-to-one}
 use Rattle.header.specs.declared.PduHeader.{PduHeader}
 use Rattle.header.specs.Header.{dataEnd}
 use Rattle.header.specs.Reading.{readingHeader}
-use Rattle.header.specs.Verifying.{pduBytes}
+use Rattle.header.specs.Directive.{directiveBytes}
 use Rattle.header.proofs.Demands.{header-two}
-use Rattle.header.proofs.Verifying.{end-le, pdu-one, pdu-is}
+use Rattle.header.proofs.Verifying.{end-le}
+use Rattle.header.proofs.Directives.{directive-two, directive-is}
 use Rattle.nak.specs.declared.Nak.{Nak}
 use Rattle.nak.specs.declared.NakResult.{NakResult}
 use Rattle.nak.specs.declared.NakResult.the-variants.{Nak as Read, Refused}
@@ -86,13 +87,9 @@ one-compare-result = one-to-one compareAnswer (answerBack verdictOf NotCompared)
 
 -- ---- demand 3
 
-directive-one : (h : PduHeader) (p : List ℕ) → AtMost (readingDirective h p) 1
-unfolding readingDirective readingScope
-directive-one h p = λ _. tt
-
 data-two : (h : PduHeader) → AtMost (readingData h) 2
-unfolding readingData
-data-two h = at-most-bind (pduBytes h) (readingDirective h) 1 1 (pdu-one h) (directive-one h)
+unfolding readingData readingDirective readingScope
+data-two h = at-most-bind (directiveBytes h) (readingDirective h) 2 0 (directive-two h) (λ p. tt)
 
 nak-four : AtMost readingNak 4
 unfolding readingNak
@@ -125,7 +122,7 @@ directive-read : (h : PduHeader) (p s : List ℕ) (n : Nak) → run (readingDire
 unfolding readingDirective readingScope
 directive-read h p s n e =
     let k = passed-all (readingDirective h p) s n e in
-    (ltb-false _ _ (k .1 .1 .1 .1 .1 .0), k .1 .1 .1 .1 .1 .1)
+    (ltb-false _ _ (k .1 .1 .0), k .1 .1 .1)
 
 -- what the NAK in a PDU shows of any bytes that hold the data
 in-bytes : (h : PduHeader) (p s : List ℕ) → areaStart h ≤ dataEnd h → dataEnd h ≤ length s → Shows s (nakIn h p)
@@ -141,7 +138,7 @@ unfolding readingNak readingData
 accepted-shows s n e =
     let b = both readingHeader readingData s n e in
     let h = b .mid in
-    let d = both (pduBytes h) (readingDirective h) s n (b .second) in
-    let p = pdu-is h s (d .mid) (d .first) in
+    let d = both (directiveBytes h) (readingDirective h) s n (b .second) in
+    let p = directive-is h s (d .mid) (d .first) in
     let k = directive-read h (d .mid) s n (d .second) in
     subst (Shows s) (k .1) (in-bytes h (d .mid) s (k .0) (omega (arith, end-le h, p .0)))

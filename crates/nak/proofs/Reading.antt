@@ -6,7 +6,7 @@ use mathlib.Core.Bool.{Bool, true, false}
 use mathlib.Core.List.{List, [], _∷_}
 use native.Mathlib.Omega.{arith}
 use lib.Dec.{eqb}
-use lib.ListN.{length, getD, take}
+use lib.ListN.{getD, take}
 use borrow.Author.Tests.{lt-ltb, le-ltb}
 use Rattle.fields.specs.BigEndian.{numberAt}
 use Rattle.fields.specs.Answer.{Answer, accepted, told, andThen}
@@ -16,8 +16,8 @@ use Rattle.fields.proofs.Staged.{run-bind}
 use Rattle.header.specs.declared.PduHeader.{PduHeader}
 use Rattle.header.specs.Header.{headerLength, pduLength, dataEnd}
 use Rattle.header.specs.Reading.{readingHeader}
-use Rattle.header.specs.Verifying.{pduBytes, verifyingRead}
-use Rattle.header.proofs.Verifying.{verified-refused, Verified}
+use Rattle.header.specs.Directive.{directiveBytes, verifyingDirective}
+use Rattle.header.proofs.Directives.{VerifiedDirective, directive-refused}
 use Rattle.nak.specs.declared.Nak.{Nak}
 use Rattle.nak.specs.Directive.{isKnown}
 use Rattle.nak.specs.Nak.{offsetWidth, areaStart, nakIn}
@@ -48,46 +48,31 @@ module _ (h : PduHeader) (p s : List ℕ) (e b : ℕ) (pe : e ≡ dataEnd h) (pb
 
 -- ---- the directive
 
-module _ (h : PduHeader) (p s : List ℕ) where
-  pub short-9 : length s < 9 → told (1 ∷ length s ∷ 9 ∷ []) ≡ run (readingDirective h p) s
+module _ (h : PduHeader) (p s : List ℕ) (a c : ℕ) (pa : a ≡ headerLength h) (pc : c ≡ getD p a 0) where
+  pub unknown-code : isKnown c ≡ false → told (7 ∷ c ∷ []) ≡ run (readingDirective h p) s
   unfolding told readingDirective
-  short-9 l = rw (lt-ltb _ _ l)
+  unknown-code k = rw (← pa, ← pc, k)
 
-  module _ (long : 9 ≤ length s) (e : ℕ) (pe : e ≡ dataEnd h) where
-    pub end-9 : e < 9 → told (6 ∷ e ∷ 9 ∷ []) ≡ run (readingDirective h p) s
+  module _ (k : isKnown c ≡ true) where
+    pub other-code : eqb c 8 ≡ false → told (8 ∷ c ∷ []) ≡ run (readingDirective h p) s
     unfolding told readingDirective
-    end-9 l = rw (← pe, le-ltb _ _ long, lt-ltb _ _ l)
+    other-code n = rw (← pa, ← pc, k, n)
 
-    module _ (e9 : 9 ≤ e) (a : ℕ) (pa : a ≡ headerLength h) where
-      pub end-code : e < a + 1 → told (6 ∷ e ∷ (a + 1) ∷ []) ≡ run (readingDirective h p) s
-      unfolding told readingDirective
-      end-code l = rw (← pe, ← pa, le-ltb _ _ long, le-ltb _ _ e9, lt-ltb _ _ l)
-
-      module _ (e1 : a + 1 ≤ e) (c : ℕ) (pc : c ≡ getD p a 0) where
-        pub unknown-code : isKnown c ≡ false → told (7 ∷ c ∷ []) ≡ run (readingDirective h p) s
-        unfolding told readingDirective
-        unknown-code k = rw (← pe, ← pa, ← pc, le-ltb _ _ long, le-ltb _ _ e9, le-ltb _ _ e1, k)
-
-        module _ (k : isKnown c ≡ true) where
-          pub other-code : eqb c 8 ≡ false → told (8 ∷ c ∷ []) ≡ run (readingDirective h p) s
-          unfolding told readingDirective
-          other-code n = rw (← pe, ← pa, ← pc, le-ltb _ _ long, le-ltb _ _ e9, le-ltb _ _ e1, k, n)
-
-          pub nak-code : (t : List ℕ) → eqb c 8 ≡ true → run (readingScope h p) t ≡ run (readingDirective h p) s
-          unfolding readingDirective readingScope
-          nak-code t n = rw (← pe, ← pa, ← pc, le-ltb _ _ long, le-ltb _ _ e9, le-ltb _ _ e1, k, n)
+    pub nak-code : (t : List ℕ) → eqb c 8 ≡ true → run (readingScope h p) t ≡ run (readingDirective h p) s
+    unfolding readingDirective readingScope
+    nak-code t n = rw (← pa, ← pc, k, n)
 
 -- ---- what the layer below refuses is refused, and behind what it accepts the next stages decide
 
-pub refused-data : (h : PduHeader) (s ns : List ℕ) → told ns ≡ run (verifyingRead h) s → told ns ≡ run (readingData h) s
+pub refused-data : (h : PduHeader) (s ns : List ℕ) → told ns ≡ run (verifyingDirective h) s → told ns ≡ run (readingData h) s
 unfolding readingData
 refused-data h s ns e =
-    sym (run-bind (pduBytes h) (readingDirective h) s ∙ ap (λ o. andThen o (λ p. run (readingDirective h p) s)) (sym (verified-refused h s ns e)) ∙ told-on ns (λ p. run (readingDirective h p) s))
+    sym (run-bind (directiveBytes h) (readingDirective h) s ∙ ap (λ o. andThen o (λ p. run (readingDirective h p) s)) (sym (directive-refused h s ns e)) ∙ told-on ns (λ p. run (readingDirective h p) s))
 
-pub verified-data : (h : PduHeader) (s : List ℕ) (end : ℕ) → Verified h s end → run (readingDirective h (take (pduLength h) s)) s ≡ run (readingData h) s
+pub verified-data : (h : PduHeader) (s : List ℕ) (end : ℕ) → VerifiedDirective h s end → run (readingDirective h (take (pduLength h) s)) s ≡ run (readingData h) s
 unfolding readingData
 verified-data h s end v =
-    sym (run-bind (pduBytes h) (readingDirective h) s ∙ ap (λ o. andThen o (λ p. run (readingDirective h p) s)) (v .bytes-are))
+    sym (run-bind (directiveBytes h) (readingDirective h) s ∙ ap (λ o. andThen o (λ p. run (readingDirective h p) s)) (v .bytes-are))
 
 pub refused-header : (s ns : List ℕ) → told ns ≡ run readingHeader s → told ns ≡ run readingNak s
 unfolding readingNak

@@ -14,9 +14,9 @@ use Rattle.fields.proofs.Judging.{Passed, passed, all-passed, passed-first, pas
 use Rattle.header.specs.declared.PduHeader.{PduHeader}
 use Rattle.header.specs.Flags.{crcBit}
 use Rattle.header.specs.Header.{pduLength, dataEnd}
-use Rattle.header.specs.Judging.{recordTests, judging}
+use Rattle.header.specs.Directive.{directiveTests, judgingDirective}
 use Rattle.header.specs.Verifying.{crcAdded}
-use Rattle.header.proofs.Judging.{refused-first}
+use Rattle.header.proofs.Directives.{refused-directive}
 use Rattle.header.proofs.Verifying.{end-sum}
 use Rattle.nak.specs.declared.write.NakWritten.{NakWritten}
 use Rattle.nak.specs.declared.reserve.ReservedNak.{ReservedNak}
@@ -28,14 +28,14 @@ use Rattle.nak.proofs.Writing.{ToWrite, to-write, judged-nak, into-room
 -- ---- the judgement of the pairs
 
 module _ (h : PduHeader) (n : ℕ) where
-  pub refused-pairs : (ns : List ℕ) → told ns ≡ judging h → told ns ≡ judgingPairs h n
+  pub refused-pairs : (ns : List ℕ) → told ns ≡ judgingDirective h → told ns ≡ judgingPairs h n
   unfolding judgingPairs pairTests
-  refused-pairs ns e = refused-first h _ _ ns e
+  refused-pairs ns e = refused-directive h _ _ ns e
 
-  module _ (good : Passed (recordTests h)) (most : ℕ) (pm : most ≡ mostPairs (h .file)) where
+  module _ (good : Passed (directiveTests h)) (most : ℕ) (pm : most ≡ mostPairs (h .file)) where
     rest : judgingPairs h n ≡ firstOf (tooMany (h .file) n ∷ []) (keeping h n)
     unfolding judgingPairs pairTests
-    rest = passed-on (recordTests h) _ _ good
+    rest = passed-on (directiveTests h) _ _ good
 
     pub many-pairs : most < n → told (10 ∷ n ∷ most ∷ []) ≡ judgingPairs h n
     unfolding told
@@ -124,15 +124,15 @@ finish-writes r start end room w e =
     let h = r .header in
     let n = r .count in
     let k = keeping h n in
-    let ts = recordTests h ++ (tooMany (h .file) n ∷ []) in
+    let ts = directiveTests h ++ (tooMany (h .file) n ∷ []) in
     let us = scopeTooLarge (h .file) start end ∷ [] in
     let p = passed ((ts ++ us) ++ (noRoom room k ∷ [])) w (record { header = k; length = pduLength k }) e in
     let q = passed-first (ts ++ us) (noRoom room k ∷ []) (p .0) in
     let l = passed-last (ts ++ us) (noRoom room k ∷ []) (p .0) in
     let u = passed-first ts us q in
     let s = passed-last ts us q in
-    let g = passed-first (recordTests h) (tooMany (h .file) n ∷ []) u in
-    let m = passed-last (recordTests h) (tooMany (h .file) n ∷ []) u in
+    let g = passed-first (directiveTests h) (tooMany (h .file) n ∷ []) u in
+    let m = passed-last (directiveTests h) (tooMany (h .file) n ∷ []) u in
     let half : (2 * n) / 2 ≡ n = omega arith in
     let j : accepted k ≡ judgingNak (h .file) h start end (2 * n) =
     ap (λ (x : ℕ). accepted (filled (h .file) x h)) (sym half) ∙ judged-nak (h .file) h start end (2 * n) g (omega arith) (not-false _ (s .0)) (mostPairs (h .file)) refl (rw half (ltb-false _ _ (m .0))) in

@@ -17,6 +17,7 @@ use Rattle.fields.proofs.BigEndian.{be-length, number-back, number-drop, one-by
 use Rattle.fields.proofs.Judging.{Passed, passed, passed-first, passed-last, all-passed, same-accepted}
 use Rattle.fields.proofs.Staged.{run-bind}
 use Rattle.header.specs.declared.PduHeader.{PduHeader}
+use Rattle.header.specs.declared.flags.PduType.the-variants.{FileDirective}
 use Rattle.header.specs.declared.flags.Direction.the-variants.{TowardsSender}
 use Rattle.header.specs.declared.flags.CrcFlag.the-variants.{NoCrc, WithCrc}
 use Rattle.header.specs.declared.flags.LargeFileFlag.{LargeFileFlag}
@@ -26,9 +27,10 @@ use Rattle.header.specs.Header.{headerLength, pduLength, dataEnd, headerBytes}
 use Rattle.header.specs.Judging.{recordTests}
 use Rattle.header.specs.Comparing.{sameHeader}
 use Rattle.header.specs.Reading.{readingHeader}
-use Rattle.header.specs.Verifying.{pduBytes, checksumBytes}
+use Rattle.header.specs.Verifying.{checksumBytes}
+use Rattle.header.specs.Directive.{directiveTests, directiveBytes}
 use Rattle.header.proofs.FlagBits.{crc-bit}
-use Rattle.header.proofs.Judging.{with-tests}
+use Rattle.header.proofs.Directives.{directive-passes, with-directive}
 use Rattle.header.proofs.Writing.{header-length}
 use Rattle.header.proofs.Comparing.{same-self, both-true, same-header-shares}
 use Rattle.header.proofs.Verifying.{pdu-sum, end-sum, checksum-length, closed-verifies, Verified}
@@ -101,7 +103,7 @@ eight-known : isKnown 8 ≡ true
 unfolding isKnown
 eight-known = refl
 
-module _ (k : PduHeader) (start end count : ℕ) (area t : List ℕ) (good : Passed (recordTests k)) (scope : scopeFits (k .file) start end ≡ true)
+module _ (k : PduHeader) (start end count : ℕ) (area t : List ℕ) (good : Passed (recordTests k)) (kind : k .kind ≡ FileDirective) (scope : scopeFits (k .file) start end ≡ true)
     (size : length area ≡ offsetWidth (k .file) * count) (whole : areaStart k + offsetWidth (k .file) * count + 2 * crcBit (k .crc) ≡ pduLength k) (small : k .length < 2 ^ 16) where
   -- all but the checksum, and all
   M : List ℕ
@@ -176,22 +178,25 @@ module _ (k : PduHeader) (start end count : ℕ) (area t : List ℕ) (good : Pas
       let s : N ++ t ≡ headerBytes k ++ r = simp append-assoc in
       ap (run readingHeader) s ∙ sound-reads-back k r good small
 
-  directive-run : run (readingDirective k N) (N ++ t) ≡ accepted (nakIn k N)
-  directive-run =
+  bytes-run : run (directiveBytes k) (N ++ t) ≡ accepted N
+  bytes-run =
       let l : length (N ++ t) ≡ pduLength k + length t = length-append N t ∙ ap (λ (j : ℕ). j + length t) n-length in
       let e : dataEnd k + 2 * crcBit (k .crc) ≡ pduLength k = end-sum k in
       let b = before in
       let n9 = nine in
       let cb = code-before in
+      directive-passes k (N ++ t) N (closed-verifies k M N t n-is n-length) (omega arith) (omega arith) kind (omega arith)
+
+  directive-run : run (readingDirective k N) (N ++ t) ≡ accepted (nakIn k N)
+  directive-run =
       let known : isKnown 8 ≡ true = eight-known in
-      sym (scope-whole k N (N ++ t) (dataEnd k) (areaStart k) refl refl b
-      ∙ nak-code k N (N ++ t) (omega arith) (dataEnd k) refl (omega arith) (headerLength k) refl (omega arith) 8 (sym code-at) known (N ++ t) refl)
+      sym (scope-whole k N (N ++ t) (dataEnd k) (areaStart k) refl refl before ∙ nak-code k N (N ++ t) (headerLength k) 8 refl (sym code-at) known (N ++ t) refl)
 
   data-run : run (readingData k) (N ++ t) ≡ accepted (nakIn k N)
   unfolding readingData
   data-run =
-      run-bind (pduBytes k) (readingDirective k) (N ++ t)
-      ∙ ap (λ (o : Answer (List ℕ)). andThen o (λ p. run (readingDirective k p) (N ++ t))) (closed-verifies k M N t n-is n-length)
+      run-bind (directiveBytes k) (readingDirective k) (N ++ t)
+      ∙ ap (λ (o : Answer (List ℕ)). andThen o (λ p. run (readingDirective k p) (N ++ t))) bytes-run
       ∙ directive-run
 
   pub over-reads : count ≡ 2 * (count / 2) → run readingNak (nakOver k start end area ++ t) ≡ accepted (readAs k start end (count / 2))
@@ -228,9 +233,9 @@ written-reads-back file h start end room numbers t w lent e =
     let size : length area ≡ offsetWidth (k .file) * length numbers = numbers-length (offsetWidth (k .file)) numbers in
     let whole : areaStart k + offsetWidth (k .file) * length numbers + 2 * crcBit (k .crc) ≡ pduLength k = ap (λ (u : ℕ). areaStart k + u * length numbers + 2 * crcBit (k .crc)) (sym f) ∙ z .whole in
     let small = small-length file h start end (length numbers) room w z in
-    let is = over-area k start end (length numbers) area t (z .good) (z .scope) size whole small (length numbers / 2) in
+    let is = over-area k start end (length numbers) area t (z .good) (z .kind) (z .scope) size whole small (length numbers / 2) in
     record {
-      read = over-reads k start end (length numbers) area t (z .good) (z .scope) size whole small (z .even);
+      read = over-reads k start end (length numbers) area t (z .good) (z .kind) (z .scope) size whole small (z .even);
       area = is;
       pairs = ap (pairsOf (k .file)) is ∙ pairs-back (k .file) numbers (z .even) (subst (λ (u : ℕ). Lent u numbers) f lent);
     }
@@ -252,7 +257,7 @@ unfolding writingNak intoRoom nakTests filled
 kept h n start end count room =
     let k = filled (h .file) (count / 2) h in
     ap (λ (ts : List Test). firstOf ((ts ++ (oddCount count ∷ scopeTooLarge (h .file) start end ∷ tooMany (h .file) (count / 2) ∷ [])) ++ (noRoom room k ∷ [])) (record { header = k; length = pduLength k }))
-    (with-tests TowardsSender (h .file) (dataLength (h .file) (h .crc) n) h)
+    (with-directive TowardsSender (h .file) (dataLength (h .file) (h .crc) n) h)
 
 -- of the record that reserving made
 placed-written : (h : PduHeader) (n start end : ℕ) (numbers s : List ℕ) (w : NakWritten) → length numbers ≡ 2 * n
@@ -381,7 +386,7 @@ even-list : (file : LargeFileFlag) (h : PduHeader) (start end count : ℕ) (w : 
 unfolding judgingNak nakTests
 even-list file h start end count w e =
     let p = passed (nakTests file h start end count) w (filled file (count / 2) h) (sym e) in
-    let u = passed-last (recordTests h) (oddCount count ∷ scopeTooLarge file start end ∷ tooMany file (count / 2) ∷ []) (p .0) in
+    let u = passed-last (directiveTests h) (oddCount count ∷ scopeTooLarge file start end ∷ tooMany file (count / 2) ∷ []) (p .0) in
     omega (arith, eqb-true (count % 2) 0 (not-false (eqb (count % 2) 0) (u .0)), div-add-mod' count 2)
 
 pub yes-means-equal : YesMeansEqual

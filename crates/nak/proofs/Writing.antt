@@ -19,16 +19,19 @@ use Rattle.fields.proofs.Width.{fits-lt}
 use Rattle.fields.proofs.BigEndian.{be-length, be-beside, put-sets, sets-append, then-sets}
 use Rattle.fields.proofs.Judging.{Passed, passed, all-passed, passed-first, passed-last, passed-on, refused-on, told-leaves}
 use Rattle.header.specs.declared.PduHeader.{PduHeader}
+use Rattle.header.specs.declared.flags.PduType.the-variants.{FileDirective}
 use Rattle.header.specs.declared.flags.Direction.the-variants.{TowardsSender}
 use Rattle.header.specs.declared.flags.CrcFlag.{CrcFlag}
 use Rattle.header.specs.declared.flags.LargeFileFlag.{LargeFileFlag}
 use Rattle.header.specs.declared.flags.LargeFileFlag.the-variants.{Normal, Large}
 use Rattle.header.specs.Flags.{crcBit}
 use Rattle.header.specs.Header.{headerLength, pduLength, headerBytes, withDirection, withFileFlag, withLength}
-use Rattle.header.specs.Judging.{recordTests, judging}
+use Rattle.header.specs.Judging.{recordTests}
+use Rattle.header.specs.Directive.{directiveTests, judgingDirective}
 use Rattle.header.specs.Writing.{headerMemory}
 use Rattle.header.specs.Verifying.{checksumBytes, crcAdded}
-use Rattle.header.proofs.Judging.{with-tests, refused-first}
+use Rattle.header.proofs.Judging.{with-tests}
+use Rattle.header.proofs.Directives.{refused-directive, directive-good, directive-kind}
 use Rattle.header.proofs.Writing.{header-length, header-stored}
 use Rattle.header.proofs.Verifying.{pdu-sum, added-sets, checksum-length}
 use Rattle.nak.specs.declared.write.NakWritten.{NakWritten}
@@ -76,14 +79,14 @@ module _ {A : Type 0} (x : A) (file : LargeFileFlag) (h : PduHeader) (start end 
   abbrev judged-as : Answer A
   judged-as = firstOf (nakTests file h start end count) x
 
-  pub refused-nak : (ns : List ℕ) → told ns ≡ judging h → told ns ≡ judged-as
+  pub refused-nak : (ns : List ℕ) → told ns ≡ judgingDirective h → told ns ≡ judged-as
   unfolding nakTests
-  refused-nak ns e = refused-first h _ _ ns e
+  refused-nak ns e = refused-directive h _ _ ns e
 
-  module _ (good : Passed (recordTests h)) where
+  module _ (good : Passed (directiveTests h)) where
     rest : judged-as ≡ firstOf (oddCount count ∷ scopeTooLarge file start end ∷ tooMany file (count / 2) ∷ []) x
     unfolding nakTests
-    rest = passed-on (recordTests h) _ _ good
+    rest = passed-on (directiveTests h) _ _ good
 
     pub odd : (count % 2 ≡ 0 → ⊥) → told (12 ∷ count ∷ []) ≡ judged-as
     unfolding told
@@ -104,7 +107,7 @@ module _ {A : Type 0} (x : A) (file : LargeFileFlag) (h : PduHeader) (start end 
 
 -- from the count of the pairs to the header that is handed back
 module _ (file : LargeFileFlag) (h : PduHeader) (start end count : ℕ) where
-  pub judged-nak : Passed (recordTests h) → count % 2 ≡ 0 → scopeFits file start end ≡ true → (most : ℕ) → most ≡ mostPairs file → count / 2 ≤ most
+  pub judged-nak : Passed (directiveTests h) → count % 2 ≡ 0 → scopeFits file start end ≡ true → (most : ℕ) → most ≡ mostPairs file → count / 2 ≤ most
       → accepted (filled file (count / 2) h) ≡ judgingNak file h start end count
   unfolding judgingNak
   judged-nak good even scope most pm l = none-holds (filled file (count / 2) h) file h start end count good even scope most pm l
@@ -118,7 +121,7 @@ module _ (file : LargeFileFlag) (h : PduHeader) (start end count : ℕ) where
     unfolding nakTests
     count-fits =
         let p = passed (nakTests file h start end count) n (count / 2) e in
-        let u = passed-last (recordTests h) (oddCount count ∷ scopeTooLarge file start end ∷ tooMany file (count / 2) ∷ []) (p .0) in
+        let u = passed-last (directiveTests h) (oddCount count ∷ scopeTooLarge file start end ∷ tooMany file (count / 2) ∷ []) (p .0) in
         rw (p .1) (ltb-false _ _ (u .1 .1 .0))
 
     pub counted-nak : accepted (filled file n h) ≡ judgingNak file h start end count
@@ -184,6 +187,7 @@ pub record ToWrite (file : LargeFileFlag) (h : PduHeader) (start end count room 
   pub header-is : w .header ≡ filled file (count / 2) h
   pub length-is : w .length ≡ pduLength (w .header)
   pub good : Passed (recordTests (w .header))
+  pub kind : w .header .kind ≡ FileDirective
   pub flag : w .header .file ≡ file
   pub scope : scopeFits (w .header .file) start end ≡ true
   pub even : count ≡ 2 * (count / 2)
@@ -284,6 +288,10 @@ pub filled-good : (file : LargeFileFlag) (n : ℕ) (h : PduHeader) → Passed (r
 unfolding filled
 filled-good file n h p = rw (with-tests TowardsSender file (dataLength file (h .crc) n) h) p
 
+filled-kind : (file : LargeFileFlag) (n : ℕ) (h : PduHeader) → filled file n h .kind ≡ h .kind
+unfolding filled
+filled-kind file n h = refl
+
 pub filled-flag : (file : LargeFileFlag) (n : ℕ) (h : PduHeader) → filled file n h .file ≡ file
 unfolding filled
 filled-flag file n h = refl
@@ -298,8 +306,8 @@ module _ (file : LargeFileFlag) (h : PduHeader) (start end count room : ℕ) (w 
       let p = passed (nakTests file h start end count ++ (noRoom room F ∷ [])) w (record { header = F; length = pduLength F }) e in
       let q = passed-first (nakTests file h start end count) (noRoom room F ∷ []) (p .0) in
       let r = passed-last (nakTests file h start end count) (noRoom room F ∷ []) (p .0) in
-      let g = passed-first (recordTests h) (oddCount count ∷ scopeTooLarge file start end ∷ tooMany file (count / 2) ∷ []) q in
-      let u = passed-last (recordTests h) (oddCount count ∷ scopeTooLarge file start end ∷ tooMany file (count / 2) ∷ []) q in
+      let g = passed-first (directiveTests h) (oddCount count ∷ scopeTooLarge file start end ∷ tooMany file (count / 2) ∷ []) q in
+      let u = passed-last (directiveTests h) (oddCount count ∷ scopeTooLarge file start end ∷ tooMany file (count / 2) ∷ []) q in
       let is : w .header ≡ F = ap (λ (x : NakWritten). x .header) (p .1) in
       let long : w .length ≡ pduLength F = ap (λ (x : NakWritten). x .length) (p .1) in
       let even : count ≡ 2 * (count / 2) = omega (arith, eqb-true (count % 2) 0 (not-false (eqb (count % 2) 0) (u .0)), div-add-mod' count 2) in
@@ -307,7 +315,8 @@ module _ (file : LargeFileFlag) (h : PduHeader) (start end count room : ℕ) (w 
       record {
         header-is = is;
         length-is = long ∙ sym (ap pduLength is);
-        good = rw is (filled-good file (count / 2) h g);
+        good = rw is (filled-good file (count / 2) h (directive-good h g));
+        kind = ap (λ (x : PduHeader). x .kind) is ∙ filled-kind file (count / 2) h ∙ directive-kind h g;
         flag = flag;
         scope = ap (λ (f : LargeFileFlag). scopeFits f start end) flag ∙ not-false _ (u .1 .0);
         even = even;

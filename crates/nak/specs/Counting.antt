@@ -10,7 +10,7 @@ use Rattle.fields.specs.Refusal.{paper}
 use Rattle.header.specs.declared.PduHeader.{PduHeader}
 use Rattle.header.specs.Flags.{crcBit}
 use Rattle.header.specs.Header.{pduLength}
-use Rattle.header.specs.Judging.{recordTests}
+use Rattle.header.specs.Directive.{directiveTests}
 use Rattle.nak.specs.declared.count.CountResult.{CountResult}
 use Rattle.nak.specs.declared.count.CountResult.the-variants.{Count, Refused}
 use Rattle.nak.specs.declared.write.NakWritten.{NakWritten}
@@ -37,9 +37,9 @@ bySize h size = (size - leastPacket h) / pairSize (h .file)
 abbrev pub smaller : ℕ → ℕ → ℕ
 smaller a b = if ltb b a then b else a
 
--- '3, 4, 14, 15' (13 is given where a record is built, C-12); otherwise 'the smaller of that rule and 8,190 or 4,094'
+-- '3, 4, 14', since C-05 21, '15' (13 is given where a record is built, C-12); otherwise 'the smaller of that rule and 8,190 or 4,094'
 unfoldable pub mostRequests : PduHeader → ℕ → Answer ℕ
-mostRequests h size = firstOf (recordTests h ++ (packetTooSmall h size ∷ [])) (smaller (bySize h size) (mostPairs (h .file)))
+mostRequests h size = firstOf (directiveTests h ++ (packetTooSmall h size ∷ [])) (smaller (bySize h size) (mostPairs (h .file)))
 
 -- ---- what is proved of it
 

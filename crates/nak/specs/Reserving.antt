@@ -6,7 +6,7 @@ use Rattle.fields.specs.Answer.{Answer, accepted, told, Test, firstOf, leaves}
 use Rattle.fields.specs.Refusal.{paper}
 use Rattle.header.specs.declared.PduHeader.{PduHeader}
 use Rattle.header.specs.Header.{dataEnd}
-use Rattle.header.specs.Judging.{recordTests}
+use Rattle.header.specs.Directive.{directiveTests}
 use Rattle.nak.specs.declared.write.NakWritten.{NakWritten}
 use Rattle.nak.specs.declared.reserve.ReservedNak.{ReservedNak}
 use Rattle.nak.specs.declared.reserve.ReserveResult.{ReserveResult}
@@ -18,9 +18,9 @@ abbrev pub reserveAnswer : ReserveResult → Answer ReservedNak
 reserveAnswer (Reserved r) = accepted r
 reserveAnswer (Refused r) = told (paper r)
 
--- '3, 4, 14, 10' of n pairs (13 is given where a record is built, C-12): reserving and finishing begin with these
+-- '3, 4, 14', since C-05 21, '10' of n pairs (13 is given where a record is built, C-12): reserving and finishing begin with these
 unfoldable pub pairTests : PduHeader → ℕ → List Test
-pairTests h n = recordTests h ++ (tooMany (h .file) n ∷ [])
+pairTests h n = directiveTests h ++ (tooMany (h .file) n ∷ [])
 
 -- reserving and finishing keep the file flag
 abbrev pub keeping : PduHeader → ℕ → PduHeader

@@ -15,7 +15,7 @@ use Rattle.header.specs.declared.flags.LargeFileFlag.{LargeFileFlag}
 use Rattle.header.specs.declared.flags.LargeFileFlag.the-variants.{Normal, Large}
 use Rattle.header.specs.Flags.{crcBit}
 use Rattle.header.specs.Header.{pduLength, headerBytes, withDirection, withFileFlag, withLength}
-use Rattle.header.specs.Judging.{recordTests}
+use Rattle.header.specs.Directive.{directiveTests}
 use Rattle.header.specs.Verifying.{checksumBytes}
 use Rattle.nak.specs.declared.write.NakWritten.{NakWritten}
 use Rattle.nak.specs.declared.write.WriteResult.{WriteResult}
@@ -82,9 +82,9 @@ tooMany file n = when (ltb (mostPairs file) n) (10 ∷ n ∷ mostPairs file ∷ 
 abbrev pub noRoom : ℕ → PduHeader → Test
 noRoom room h = when (ltb room (pduLength h)) (11 ∷ room ∷ pduLength h ∷ [])
 
--- '3; 4; 14 for source, sequence, destination; 12; 9; 10'
+-- '3; 4; 14 for source, sequence, destination', since C-05 21, '12; 9; 10'
 unfoldable pub nakTests : LargeFileFlag → PduHeader → ℕ → ℕ → ℕ → List Test
-nakTests file h start end count = recordTests h ++ (oddCount count ∷ scopeTooLarge file start end ∷ tooMany file (count / 2) ∷ [])
+nakTests file h start end count = directiveTests h ++ (oddCount count ∷ scopeTooLarge file start end ∷ tooMany file (count / 2) ∷ [])
 
 -- the judgement but for the room: the header that is handed back
 unfoldable pub judgingNak : LargeFileFlag → PduHeader → ℕ → ℕ → ℕ → Answer PduHeader

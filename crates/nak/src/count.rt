@@ -16,7 +16,7 @@ pub enum CountResult {
 pub fn calculate_max_segment_requests(size: usize, header: PduHeader) -> CountResult
     ensures { λ r. ⌜ countAnswer r ≡ mostRequests header size ⌝ }
 {
-    let judged = header.judged();
+    let judged = header.judged_directive();
     match judged {
         HeaderResult::Refused(refusal) => CountResult::Refused(refusal),
         HeaderResult::Header(_) => {

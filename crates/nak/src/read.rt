@@ -1,9 +1,9 @@
 // Reading a NAK (the Rust's `NakPduReader`).
 ghost use mathlib.Core.Path.{_≡_};
-ghost use Prim.Native.Nat.{_≤_};
+ghost use Prim.Native.Nat.{_+_, _≤_};
 ghost use lib.ListN.{length, take};
 ghost use Rattle.fields.specs.Staged.{run};
-ghost use Rattle.header.specs.Header.{pduLength, dataEnd};
+ghost use Rattle.header.specs.Header.{headerLength, pduLength, dataEnd};
 ghost use Rattle.nak.specs.Nak.{areaStart, nakIn};
 ghost use Rattle.nak.specs.Reading.{nakAnswer, readingScope, readingDirective, readingData, readingNak};
 use crate::Nak;
@@ -15,15 +15,6 @@ use fields::Refusal;
 use header::HeaderResult;
 use header::LengthResult;
 use header::PduHeader;
-
-// A directive code and a normal scope: the fewest bytes that the Rust asks for.
-const LEAST_LEN: usize = 9;
-
-fn data_short(end: usize, expected: usize) -> NakResult
-    ensures { λ r. ⌜ r ≡ NakResult.Refused (Refusal.DataFieldTooSmall end expected) ⌝ }
-{
-    NakResult::Refused(Refusal::DataFieldTooSmall { end, expected })
-}
 
 // The NAK in its PDU, whose data ends at `end`, behind the scope.
 fn nak_in(header: PduHeader, pdu: &[u8], end: usize) -> Nak
@@ -56,30 +47,21 @@ fn read_scope(header: PduHeader, pdu: &[u8], end: usize) -> NakResult
     let file = header.file;
     let area = header.header_len() + 1 + 2 * offset_width(file);
     if end < area {
-        return data_short(end, area);
+        return NakResult::Refused(Refusal::DataFieldTooSmall {
+            end,
+            expected: area,
+        });
     }
     NakResult::Nak(nak_in(header, pdu, end))
 }
 
-// The directive of a PDU that was verified; `end` is where its data ends.
+// The directive of a PDU that was verified; `end` is where its data ends, behind the directive's code.
 fn read_directive(header: PduHeader, buf: &[u8], end: usize) -> NakResult
-    requires { ⌜ (end ≡ dataEnd header) × (pduLength header ≤ length (now buf)) ⌝ }
+    requires { ⌜ (end ≡ dataEnd header) × (pduLength header ≤ length (now buf)) × (headerLength header + 1 ≤ dataEnd header) ⌝ }
     ensures { λ r. ⌜ nakAnswer r ≡ run (readingDirective header (take (pduLength header) (now (buf .entry)))) (now (buf .entry)) ⌝ }
 {
     let pdu = &buf[..header.pdu_len()];
-    if buf.len() < LEAST_LEN {
-        return NakResult::Refused(Refusal::FromSliceTooSmall {
-            found: buf.len(),
-            expected: LEAST_LEN,
-        });
-    }
-    if end < LEAST_LEN {
-        return data_short(end, LEAST_LEN);
-    }
     let at = header.header_len();
-    if end < at + 1 {
-        return data_short(end, at + 1);
-    }
     let code = pdu[at];
     let directive = Directive::from_code(code);
     match directive {
@@ -92,7 +74,7 @@ fn read_directive(header: PduHeader, buf: &[u8], end: usize) -> NakResult
 fn read_data(header: PduHeader, buf: &[u8]) -> NakResult
     ensures { λ r. ⌜ nakAnswer r ≡ run (readingData header) (now (buf .entry)) ⌝ }
 {
-    let verified = header.verify_read(buf);
+    let verified = header.verify_directive(buf);
     match verified {
         LengthResult::Refused(refusal) => NakResult::Refused(refusal),
         LengthResult::Length(end) => read_directive(header, buf, end),
@@ -100,7 +82,7 @@ fn read_data(header: PduHeader, buf: &[u8]) -> NakResult
 }
 
 impl Nak {
-    // PDU type and segment metadata flag are read and not judged, as in the Rust. What follows the PDU is not looked at.
+    // The segment metadata flag is read and not judged, as in the Rust. What follows the PDU is not looked at.
     pub fn from_bytes(buf: &[u8]) -> NakResult
         ensures { λ r. ⌜ nakAnswer r ≡ run readingNak (now (buf .entry)) ⌝ }
     {

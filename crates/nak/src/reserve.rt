@@ -33,7 +33,7 @@ pub enum ReserveResult {
 fn judge_pairs(header: PduHeader, count: usize) -> HeaderResult
     ensures { λ r. ⌜ headerAnswer r ≡ judgingPairs header count ⌝ }
 {
-    let judged = header.judged();
+    let judged = header.judged_directive();
     match judged {
         HeaderResult::Refused(refusal) => HeaderResult::Refused(refusal),
         HeaderResult::Header(_) => {

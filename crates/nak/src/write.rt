@@ -96,7 +96,7 @@ fn judge_count(
 ) -> CountResult
     ensures { λ r. ⌜ countAnswer r ≡ firstOf (nakTests file header start end count) (count / 2) ⌝ }
 {
-    let judged = header.judged();
+    let judged = header.judged_directive();
     match judged {
         HeaderResult::Refused(refusal) => CountResult::Refused(refusal),
         HeaderResult::Header(_) => {

@@ -11,6 +11,8 @@ pub const UNTOUCHED: u64 = 0xa5a5_a5a5_a5a5_a5a5;
 
 /// How many numbers each refusal of document 01's table returns, by its number.
 const VALUES: [usize; 16] = [0, 2, 1, 1, 1, 1, 2, 1, 1, 2, 2, 2, 1, 2, 2, 0];
+/// Not a directive: document 02's C-05, with no number.
+const NOT_A_DIRECTIVE: usize = 21;
 
 /// The N numbers of an acceptance. Every number after the answer's own must be 0.
 pub fn ask<const N: usize>(call: impl FnOnce(&mut Answer)) -> Result<[u64; N], String> {
@@ -20,6 +22,7 @@ pub fn ask<const N: usize>(call: impl FnOnce(&mut Answer)) -> Result<[u64; N], S
     let values = match number {
         0 => N,
         1..16 => VALUES[number],
+        NOT_A_DIRECTIVE => 0,
         _ => return Err(stray(&answer)),
     };
     if answer[1 + values..].iter().any(|n| *n != 0) {

@@ -15,12 +15,12 @@ pub fn compared(command: &Command) -> Option<bool> {
     Some(match command {
         Crc(_) | Header(_) => true,
         Build(record) | Verify(record, _) => judge(record, || true),
-        Max(record, size) => judge(record, || count_fits(record, *size)),
+        Max(record, size) => judge_directive(record, || count_fits(record, *size)),
         WriteHeader(record, buf) => judge(record, || header_room(record, buf.len())),
         Read(bytes) => reading(bytes),
         Write(nak, _) => writing(nak),
-        Reserve(record, count, _) => judge(record, || pairs_fit(record.large, *count)),
-        Finish(record, count, scope, _) => judge(record, || {
+        Reserve(record, count, _) => judge_directive(record, || pairs_fit(record.large, *count)),
+        Finish(record, count, scope, _) => judge_directive(record, || {
             pairs_fit(record.large, *count) && scope_fits(record.large, scope)
         }),
         Compare(bytes, nak) => reading(bytes) && writing(nak),
@@ -29,7 +29,7 @@ pub fn compared(command: &Command) -> Option<bool> {
 }
 
 /// "every buffer, except those that hold all P bytes, have a good checksum, and whose E is at least
-/// 9 and below h + 1 + F"
+/// 9 and below h + 1 + F"; C-05: "for type 0 only", and for type 1 as far as 21 is not reached.
 pub fn reading(bytes: &[u8]) -> bool {
     let Some(sizes) = Sizes::read(bytes) else {
         return true;
@@ -41,7 +41,7 @@ pub fn reading(bytes: &[u8]) -> bool {
         return true;
     }
     let end = if sizes.crc { sizes.pdu - 2 } else { sizes.pdu };
-    !(9 <= end && end < sizes.header + 1 + sizes.pair)
+    end < 9 || !sizes.file_data && sizes.header + 1 + sizes.pair <= end
 }
 
 /// h, P and F of a buffer whose header is accepted.
@@ -50,6 +50,7 @@ struct Sizes {
     pdu: usize,
     pair: usize,
     crc: bool,
+    file_data: bool,
 }
 
 impl Sizes {
@@ -72,6 +73,7 @@ impl Sizes {
             pdu: header + usize::from(u16::from_be_bytes([high, low])),
             pair: if first & 1 == 1 { 16 } else { 8 },
             crc: first >> 1 & 1 == 1,
+            file_data: first >> 4 & 1 == 1,
         })
     }
 }
@@ -94,6 +96,11 @@ fn judge(record: &Record, valid: impl FnOnce() -> bool) -> bool {
         return true;
     }
     fields.iter().all(fits) && valid()
+}
+
+/// C-05: a directive PDU's record has type 0; 21 is the port's own.
+fn judge_directive(record: &Record, valid: impl FnOnce() -> bool) -> bool {
+    judge(record, || record.pdu_type == 0 && valid())
 }
 
 fn allowed(width: u64) -> bool {
@@ -120,7 +127,7 @@ fn writing(nak: &Nak) -> bool {
         List::Normal(numbers) => (0, numbers.len()),
         List::Large(numbers) => (1, numbers.len()),
     };
-    judge(&nak.record, || {
+    judge_directive(&nak.record, || {
         numbers % 2 == 0 && pairs_fit(large, numbers / 2) && scope_fits(large, &nak.scope)
     })
 }

@@ -41,12 +41,13 @@ impl Random {
         }
     }
 
-    /// A valid record, its data field length by chance.
+    /// A valid record, its data field length by chance; one in eight is of file data, which is compared
+    /// least.
     pub fn record(&mut self) -> Record {
         let entity = self.one_of(&WIDTHS);
         let sequence = self.one_of(&WIDTHS);
         Record {
-            pdu_type: self.bit(),
+            pdu_type: u8::from(self.below(8) == 0),
             direction: self.bit(),
             mode: self.bit(),
             crc: self.bit(),

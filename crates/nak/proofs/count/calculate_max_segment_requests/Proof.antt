@@ -3,14 +3,14 @@
 use Prim.Native.Nat.{ℕ, _*_}
 use mathlib.Core.Path.{sym, ap, _∙_}
 use Rattle.header.specs.Answers.{headerAnswer}
-use Rattle.header.proofs.Judging.{passed-tests}
+use Rattle.header.proofs.Directives.{passed-directive}
 use Rattle.nak.proofs.Counting.{least-is, refused-count, too-small, limited, counted}
 use borrow.Author.Needs.{needs}
 use Rattle.nak.proofs.count.calculate_max_segment_requests.Statement.{statement}
 use Rattle.nak.proofs.count.calculate_max_segment_requests.Tie as tie
 
-judged-requires : tie.Need-judged-requires
-judged-requires c κs = search needs
+judged-directive-requires : tie.Need-judged-directive-requires
+judged-directive-requires c κs = search needs
 
 enum-known-judged : tie.Need-enum-known-judged
 enum-known-judged c = search needs
@@ -46,7 +46,7 @@ add-least-3 : tie.Need-add-least-3
 add-least-3 c = search needs
 
 returns : tie.Need-returns
-returns c = too-small _ _ (passed-tests _ _ (ap headerAnswer (sym (c .before .before .before .before .enum-told .given .1)) ∙ c .before .before .before .before .before .before .judged .ensures)) _ (least-is _ _ _ _ (c .before .before .header-len .ensures .0) (c .before .before .before .offset-width .ensures .0) (c .before .bit .ensures .0)) (c .if1 .taken)
+returns c = too-small _ _ (passed-directive _ _ (ap headerAnswer (sym (c .before .before .before .before .enum-told .given .1)) ∙ c .before .before .before .before .before .before .judged-directive .ensures)) _ (least-is _ _ _ _ (c .before .before .header-len .ensures .0) (c .before .before .before .offset-width .ensures .0) (c .before .bit .ensures .0)) (c .if1 .taken)
 
 div-by-size : tie.Need-div-by-size
 div-by-size c = search needs
@@ -56,21 +56,21 @@ most-pairs-requires c κs = search needs
 
 returns-2 : tie.Need-returns-2
 returns-2 c =
-    limited _ _ (passed-tests _ _ (ap headerAnswer (sym (c .before .before .before .before .before .before .enum-told .given .1)) ∙ c .before .before .before .before .before .before .before .before .judged .ensures)) _ (least-is _ _ _ _ (c .before .before .before .before .header-len .ensures .0) (c .before .before .before .before .before .offset-width .ensures .0) (c .before .before .before .bit .ensures .0)) _ _ (ap (λ (n : ℕ). 2 * n) (c .before .before .before .before .before .offset-width .ensures .0)) (c .before .most-pairs .ensures) (c .before .before .if1 .left) (c .if2 .taken)
+    limited _ _ (passed-directive _ _ (ap headerAnswer (sym (c .before .before .before .before .before .before .enum-told .given .1)) ∙ c .before .before .before .before .before .before .before .before .judged-directive .ensures)) _ (least-is _ _ _ _ (c .before .before .before .before .header-len .ensures .0) (c .before .before .before .before .before .offset-width .ensures .0) (c .before .before .before .bit .ensures .0)) _ _ (ap (λ (n : ℕ). 2 * n) (c .before .before .before .before .before .offset-width .ensures .0)) (c .before .most-pairs .ensures) (c .before .before .if1 .left) (c .if2 .taken)
 
 returns-3 : tie.Need-returns-3
 returns-3 c =
-    refused-count _ _ _ (ap headerAnswer (sym (c .before .judged2 .given .1)) ∙ c .before .before .before .judged .ensures)
+    refused-count _ _ _ (ap headerAnswer (sym (c .before .judged .given .1)) ∙ c .before .before .before .judged-directive .ensures)
 
 returns-4 : tie.Need-returns-4
 returns-4 c =
-    counted _ _ (passed-tests _ _ (ap headerAnswer (sym (c .before .before .before .before .before .before .enum-told .given .1)) ∙ c .before .before .before .before .before .before .before .before .judged .ensures)) _ (least-is _ _ _ _ (c .before .before .before .before .header-len .ensures .0) (c .before .before .before .before .before .offset-width .ensures .0) (c .before .before .before .bit .ensures .0)) _ _ (ap (λ (n : ℕ). 2 * n) (c .before .before .before .before .before .offset-width .ensures .0)) (c .before .most-pairs .ensures) (c .before .before .if1 .left) (c .if2 .left)
+    counted _ _ (passed-directive _ _ (ap headerAnswer (sym (c .before .before .before .before .before .before .enum-told .given .1)) ∙ c .before .before .before .before .before .before .before .before .judged-directive .ensures)) _ (least-is _ _ _ _ (c .before .before .before .before .header-len .ensures .0) (c .before .before .before .before .before .offset-width .ensures .0) (c .before .before .before .bit .ensures .0)) _ _ (ap (λ (n : ℕ). 2 * n) (c .before .before .before .before .before .offset-width .ensures .0)) (c .before .most-pairs .ensures) (c .before .before .if1 .left) (c .if2 .left)
 
 pub calculate-max-segment-requests-spec : {M : Type 1} → statement M
 calculate-max-segment-requests-spec =
     tie.close
     (tie.spec
-    judged-requires
+    judged-directive-requires
     enum-known-judged
     enum-told
     offset-width-requires

@@ -1,12 +1,11 @@
 -- `nak::read::read_directive` meets its contract: each exit's answer is the stages'.
 -- Assumes nothing.
-use mathlib.Core.Path.{refl, sym, ap, _∙_}
+use mathlib.Core.Path.{refl, sym, _∙_}
 use native.Mathlib.Omega.{arith}
 use lib.Seq.{length-take-le}
-use Rattle.nak.specs.Reading.{nakAnswer}
 use Rattle.header.proofs.Verifying.{end-le}
 use Rattle.nak.proofs.Codes.{unknown-says, known-says, nak-says}
-use Rattle.nak.proofs.Reading.{short-9, end-9, end-code, unknown-code, other-code, nak-code}
+use Rattle.nak.proofs.Reading.{unknown-code, other-code, nak-code}
 use borrow.Author.Needs.{needs}
 use Rattle.nak.proofs.read.read_directive.Statement.{statement}
 use Rattle.nak.proofs.read.read_directive.Tie as tie
@@ -17,34 +16,11 @@ pdu-len-requires c κs = search needs
 slice-aggregate-pdu : tie.Need-slice-aggregate-pdu
 slice-aggregate-pdu c = sym (length-take-le (c .before .pdu-len .result) (c .before .before .before .args .buf .now) (omega arith))
 
-returns : tie.Need-returns
-returns c = short-9 _ _ _ (c .if1 .taken)
-
-data-short-requires : tie.Need-data-short-requires
-data-short-requires c κs = search needs
-
-returns-2 : tie.Need-returns-2
-returns-2 c = ap nakAnswer (c .data-short .ensures) ∙ end-9 _ _ _ (c .before .before .if1 .left) _ (c .before .before .before .before .before .before .pre .0) (c .before .if2 .taken)
-
 header-len-requires : tie.Need-header-len-requires
 header-len-requires c κs = search needs
 
-add-if3 : tie.Need-add-if3
-add-if3 c = search needs
-
-add-data-short : tie.Need-add-data-short
-add-data-short c = search needs
-
-data-short-requires-2 : tie.Need-data-short-requires-2
-data-short-requires-2 c κs = search needs
-
-returns-3 : tie.Need-returns-3
-returns-3 c =
-    ap nakAnswer (c .data-short2 .ensures) ∙ end-code _ _ _ (c .before .before .before .before .if1 .left) _ (c .before .before .before .before .before .before .before .before .pre .0) (c .before .before .before .if2 .left) _ (c .before .before .header-len .ensures .0) (c .before .if3 .taken)
-
 shared-slice-read-code : tie.Need-shared-slice-read-code
-shared-slice-read-code c =
-    omega (arith, length-take-le (c .before .before .before .before .before .before .pdu-len .result) (c .before .before .before .before .before .before .before .before .args .buf .now) (omega arith), end-le (c .before .before .before .before .before .before .before .before .args .header))
+shared-slice-read-code c = omega (arith, length-take-le (c .before .before .before .pdu-len .result) (c .before .before .before .before .before .args .buf .now) (omega arith), end-le (c .before .before .before .before .before .args .header))
 
 from-code-requires : tie.Need-from-code-requires
 from-code-requires c κs = search needs
@@ -59,22 +35,20 @@ enum-told-3 : tie.Need-enum-told-3
 enum-told-3 c = search needs
 
 read-scope-requires : tie.Need-read-scope-requires
-read-scope-requires c κs =
-    (c .before .before .before .before .before .before .before .before .before .before .before .pre .0, omega (arith, length-take-le (c .before .before .before .before .before .before .before .before .before .pdu-len .result) (c .before .before .before .before .before .before .before .before .before .before .before .args .buf .now) (omega arith), end-le (c .before .before .before .before .before .before .before .before .before .before .before .args .header)))
+read-scope-requires c κs = (c .before .before .before .before .before .before .before .before .pre .0, omega (arith, length-take-le (c .before .before .before .before .before .before .pdu-len .result) (c .before .before .before .before .before .before .before .before .args .buf .now) (omega arith), end-le (c .before .before .before .before .before .before .before .before .args .header)))
 
-returns-4 : tie.Need-returns-4
-returns-4 c =
-    rw (← c .before .before .before .before .before .before .before .before .before .pdu-len .ensures .0) (unknown-code _ _ _ (c .before .before .before .before .before .before .before .if1 .left) _ (c .before .before .before .before .before .before .before .before .before .before .before .pre .0) (c .before .before .before .before .before .before .if2 .left) _ (c .before .before .before .before .before .header-len .ensures .0) (c .before .before .before .before .if3 .left) _ refl (unknown-says _ (sym (c .enum-told .given .1) ∙ c .before .before .from-code .ensures)))
+returns : tie.Need-returns
+returns c = rw (← c .before .before .before .before .before .before .pdu-len .ensures .0) (unknown-code _ _ _ _ _ (c .before .before .before .before .header-len .ensures .0) refl (unknown-says _ (sym (c .enum-told .given .1) ∙ c .before .before .from-code .ensures)))
 
-returns-5 : tie.Need-returns-5
-returns-5 c =
+returns-2 : tie.Need-returns-2
+returns-2 c =
     let k = known-says _ (sym (c .enum-told2 .given .1) ∙ c .before .before .from-code .ensures) in
-    rw (← c .before .before .before .before .before .before .before .before .before .pdu-len .ensures .0) (other-code _ _ _ (c .before .before .before .before .before .before .before .if1 .left) _ (c .before .before .before .before .before .before .before .before .before .before .before .pre .0) (c .before .before .before .before .before .before .if2 .left) _ (c .before .before .before .before .before .header-len .ensures .0) (c .before .before .before .before .if3 .left) _ refl (k .0) (k .1))
+    rw (← c .before .before .before .before .before .before .pdu-len .ensures .0) (other-code _ _ _ _ _ (c .before .before .before .before .header-len .ensures .0) refl (k .0) (k .1))
 
-returns-6 : tie.Need-returns-6
-returns-6 c =
+returns-3 : tie.Need-returns-3
+returns-3 c =
     let k = nak-says _ (sym (c .before .enum-told3 .given .1) ∙ c .before .before .before .from-code .ensures) in
-    c .read-scope .ensures ∙ rw (← c .before .before .before .before .before .before .before .before .before .before .pdu-len .ensures .0) (nak-code _ _ _ (c .before .before .before .before .before .before .before .before .if1 .left) _ (c .before .before .before .before .before .before .before .before .before .before .before .before .pre .0) (c .before .before .before .before .before .before .before .if2 .left) _ (c .before .before .before .before .before .before .header-len .ensures .0) (c .before .before .before .before .before .if3 .left) _ refl (k .0) _ (k .1))
+    c .read-scope .ensures ∙ rw (← c .before .before .before .before .before .before .before .pdu-len .ensures .0) (nak-code _ _ _ _ _ (c .before .before .before .before .before .header-len .ensures .0) refl (k .0) _ (k .1))
 
 pub read-directive-spec : {M : Type 1} → statement M
 read-directive-spec =
@@ -82,20 +56,13 @@ read-directive-spec =
     (tie.spec
     pdu-len-requires
     slice-aggregate-pdu
-    returns
-    data-short-requires
-    returns-2
     header-len-requires
-    add-if3
-    add-data-short
-    data-short-requires-2
-    returns-3
     shared-slice-read-code
     from-code-requires
     enum-told
     enum-told-2
     enum-told-3
     read-scope-requires
-    returns-4
-    returns-5
-    returns-6)
+    returns
+    returns-2
+    returns-3)

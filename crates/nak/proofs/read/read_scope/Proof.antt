@@ -3,7 +3,6 @@
 use mathlib.Core.Path.{ap, _∙_}
 use native.Mathlib.Omega.{arith}
 use Rattle.fields.specs.Answer.{accepted}
-use Rattle.nak.specs.Reading.{nakAnswer}
 use Rattle.nak.proofs.Reading.{area-is, scope-short, scope-whole}
 use borrow.Author.Needs.{needs}
 use Rattle.nak.proofs.read.read_scope.Statement.{statement}
@@ -24,12 +23,9 @@ mul-area c = search needs
 add-area-2 : tie.Need-add-area-2
 add-area-2 c = search needs
 
-data-short-requires : tie.Need-data-short-requires
-data-short-requires c κs = search needs
-
 returns : tie.Need-returns
 returns c =
-    ap nakAnswer (c .data-short .ensures) ∙ scope-short _ _ _ _ _ (c .before .before .before .before .before .pre .0) (area-is _ _ _ (c .before .before .before .header-len .ensures .0) (c .before .before .offset-width .ensures .0)) (c .before .if1 .taken)
+    scope-short _ _ _ _ _ (c .before .before .before .before .pre .0) (area-is _ _ _ (c .before .before .header-len .ensures .0) (c .before .offset-width .ensures .0)) (c .if1 .taken)
 
 nak-in-requires : tie.Need-nak-in-requires
 nak-in-requires c κs =
@@ -48,7 +44,6 @@ read-scope-spec =
     offset-width-requires
     mul-area
     add-area-2
-    data-short-requires
     returns
     nak-in-requires
     returns-2)

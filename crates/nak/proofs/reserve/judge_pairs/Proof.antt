@@ -3,14 +3,14 @@
 use mathlib.Core.Path.{sym, ap, _∙_}
 use Rattle.fields.specs.Answer.{accepted}
 use Rattle.header.specs.Answers.{headerAnswer}
-use Rattle.header.proofs.Judging.{passed-tests}
+use Rattle.header.proofs.Directives.{passed-directive}
 use Rattle.nak.proofs.Reserving.{refused-pairs, many-pairs, judged-pairs}
 use borrow.Author.Needs.{needs}
 use Rattle.nak.proofs.reserve.judge_pairs.Statement.{statement}
 use Rattle.nak.proofs.reserve.judge_pairs.Tie as tie
 
-judged-requires : tie.Need-judged-requires
-judged-requires c κs = search needs
+judged-directive-requires : tie.Need-judged-directive-requires
+judged-directive-requires c κs = search needs
 
 enum-known-judged : tie.Need-enum-known-judged
 enum-known-judged c = search needs
@@ -22,22 +22,22 @@ most-pairs-requires : tie.Need-most-pairs-requires
 most-pairs-requires c κs = search needs
 
 returns : tie.Need-returns
-returns c = many-pairs _ _ (passed-tests _ _ (ap headerAnswer (sym (c .before .before .enum-told .given .1)) ∙ c .before .before .before .before .judged .ensures)) _ (c .before .most-pairs .ensures) (c .if1 .taken)
+returns c = many-pairs _ _ (passed-directive _ _ (ap headerAnswer (sym (c .before .before .enum-told .given .1)) ∙ c .before .before .before .before .judged-directive .ensures)) _ (c .before .most-pairs .ensures) (c .if1 .taken)
 
 fill-requires : tie.Need-fill-requires
 fill-requires c κs = search needs
 
 returns-2 : tie.Need-returns-2
-returns-2 c = refused-pairs _ _ _ (ap headerAnswer (sym (c .before .judged2 .given .1)) ∙ c .before .before .before .judged .ensures)
+returns-2 c = refused-pairs _ _ _ (ap headerAnswer (sym (c .before .judged .given .1)) ∙ c .before .before .before .judged-directive .ensures)
 
 returns-3 : tie.Need-returns-3
-returns-3 c = ap accepted (c .fill .ensures) ∙ judged-pairs _ _ (passed-tests _ _ (ap headerAnswer (sym (c .before .before .before .enum-told .given .1)) ∙ c .before .before .before .before .before .judged .ensures)) _ (c .before .before .most-pairs .ensures) (c .before .if1 .left)
+returns-3 c = ap accepted (c .fill .ensures) ∙ judged-pairs _ _ (passed-directive _ _ (ap headerAnswer (sym (c .before .before .before .enum-told .given .1)) ∙ c .before .before .before .before .before .judged-directive .ensures)) _ (c .before .before .most-pairs .ensures) (c .before .if1 .left)
 
 pub judge-pairs-spec : {M : Type 1} → statement M
 judge-pairs-spec =
     tie.close
     (tie.spec
-    judged-requires
+    judged-directive-requires
     enum-known-judged
     enum-told
     most-pairs-requires

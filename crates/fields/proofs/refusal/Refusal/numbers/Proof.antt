@@ -120,6 +120,15 @@ two-requires-7 c κs = search needs
 enum-told : tie.Need-enum-told
 enum-told c = search needs
 
+none-requires : tie.Need-none-requires
+none-requires c κs = search needs
+
+enum-told-2 : tie.Need-enum-told-2
+enum-told-2 c = search needs
+
+none-requires-2 : tie.Need-none-requires-2
+none-requires-2 c κs = search needs
+
 returns : tie.Need-returns
 returns c = c .two .ensures ∙ ap numbersOf (sym (c .before .before .self .given .1))
 
@@ -163,7 +172,10 @@ returns-14 : tie.Need-returns-14
 returns-14 c = c .two7 .ensures ∙ ap numbersOf (sym (c .before .before .self14 .given .1))
 
 returns-15 : tie.Need-returns-15
-returns-15 c = ap numbersOf (sym (c .enum-told .given .1))
+returns-15 c = c .none .ensures ∙ ap numbersOf (sym (c .before .enum-told .given .1))
+
+returns-16 : tie.Need-returns-16
+returns-16 c = c .none2 .ensures ∙ ap numbersOf (sym (c .before .enum-told2 .given .1))
 
 pub numbers-spec : {M : Type 1} → statement M
 numbers-spec =
@@ -207,6 +219,9 @@ numbers-spec =
     cast-two-3
     two-requires-7
     enum-told
+    none-requires
+    enum-told-2
+    none-requires-2
     returns
     returns-2
     returns-3
@@ -221,4 +236,5 @@ numbers-spec =
     returns-12
     returns-13
     returns-14
-    returns-15)
+    returns-15
+    returns-16)

@@ -1,0 +1,148 @@
+-- Directive PDUs: the answer at each exit, and what a PDU that was verified and a record that passed are known to be.
+-- Assumes nothing.
+use Prim.Native.Nat.{ℕ, _+_, _≤_, _<_}
+use mathlib.Core.Path.{_≡_, sym, ap, _∙_}
+use mathlib.Core.List.{List, [], _∷_, _++_}
+use lib.ListN.{length, take}
+use borrow.Author.Tests.{lt-ltb, le-ltb, ltb-false}
+use Rattle.fields.specs.Answer.{Answer, accepted, told, andThen, Test, firstOf}
+use Rattle.fields.specs.Staged.{run}
+use Rattle.fields.specs.Demand3.{AtMost}
+use Rattle.fields.proofs.Judging.{Passed, passed, passed-first, passed-last, passed-on, refused-on, told-on}
+use Rattle.fields.proofs.Staged.{run-bind, passed-all, told-before, at-most-bind}
+use Rattle.header.specs.declared.PduHeader.{PduHeader}
+use Rattle.header.specs.declared.flags.PduType.the-variants.{FileDirective, FileData}
+use Rattle.header.specs.declared.flags.Direction.{Direction}
+use Rattle.header.specs.declared.flags.LargeFileFlag.{LargeFileFlag}
+use Rattle.header.specs.Flags.{pduTypeBit, pduTypeIf}
+use Rattle.header.specs.Header.{headerLength, pduLength, dataEnd, withDirection, withFileFlag, withLength}
+use Rattle.header.specs.Judging.{recordTests, judging}
+use Rattle.header.specs.Verifying.{pduBytes, verifyingRead}
+use Rattle.header.specs.Directive.{notADirective, directivePart, directiveBytes, verifyingDirective, directiveTests, judgingDirective}
+use Rattle.header.proofs.FlagBits.{pduType-back}
+use Rattle.header.proofs.Judging.{with-tests, refused-first}
+use Rattle.header.proofs.Verifying.{Verified, verified-refused, pdu-one}
+
+-- ---- reading: what is not verified is refused, and behind what is verified the tests decide
+
+module _ (h : PduHeader) (s : List ℕ) where
+  pub refused-verified : (ns : List ℕ) → told ns ≡ run (verifyingRead h) s → told ns ≡ run (verifyingDirective h) s
+  unfolding verifyingDirective directiveBytes
+  refused-verified ns e =
+      sym (run-bind (directiveBytes h) _ s
+      ∙ ap (λ (o : Answer (List ℕ)). andThen o (λ _. accepted (dataEnd h)))
+      (run-bind (pduBytes h) (directivePart h) s ∙ ap (λ (o : Answer (List ℕ)). andThen o (λ p. run (directivePart h p) s)) (sym (verified-refused h s ns e)) ∙ told-on ns _)
+      ∙ told-on ns _)
+
+  module _ (end : ℕ) (v : Verified h s end) where
+    rest : run (verifyingDirective h) s ≡ andThen (run (directivePart h (take (pduLength h) s)) s) (λ _. accepted (dataEnd h))
+    unfolding verifyingDirective directiveBytes
+    rest =
+        run-bind (directiveBytes h) _ s
+        ∙ ap (λ (o : Answer (List ℕ)). andThen o (λ _. accepted (dataEnd h)))
+        (run-bind (pduBytes h) (directivePart h) s ∙ ap (λ (o : Answer (List ℕ)). andThen o (λ p. run (directivePart h p) s)) (v .bytes-are))
+
+    pub short-9 : length s < 9 → told (1 ∷ length s ∷ 9 ∷ []) ≡ run (verifyingDirective h) s
+    unfolding told directivePart
+    short-9 l = rw (rest, lt-ltb _ _ l)
+
+    module _ (long : 9 ≤ length s) where
+      pub end-9 : end < 9 → told (6 ∷ end ∷ 9 ∷ []) ≡ run (verifyingDirective h) s
+      unfolding told directivePart
+      end-9 l = rw (rest, ← v .end-is, le-ltb _ _ long, lt-ltb _ _ l)
+
+      module _ (e9 : 9 ≤ end) where
+        pub file-data : h .kind ≡ FileData → told (21 ∷ []) ≡ run (verifyingDirective h) s
+        unfolding told directivePart
+        file-data k = rw (rest, ← v .end-is, le-ltb _ _ long, le-ltb _ _ e9, ap pduTypeBit k)
+
+        module _ (kind : h .kind ≡ FileDirective) (a : ℕ) (pa : a ≡ headerLength h) where
+          pub end-code : end < a + 1 → told (6 ∷ end ∷ (a + 1) ∷ []) ≡ run (verifyingDirective h) s
+          unfolding told directivePart
+          end-code l = rw (rest, ← v .end-is, ← pa, le-ltb _ _ long, le-ltb _ _ e9, ap pduTypeBit kind, lt-ltb _ _ l)
+
+          pub code-there : a + 1 ≤ end → accepted end ≡ run (verifyingDirective h) s
+          unfolding directivePart
+          code-there l = rw (rest, ← v .end-is, ← pa, le-ltb _ _ long, le-ltb _ _ e9, ap pduTypeBit kind, le-ltb _ _ l)
+
+-- ---- for the readers above
+
+pub record VerifiedDirective (h : PduHeader) (s : List ℕ) (end : ℕ) : Type 0 where
+  pub long : pduLength h ≤ length s
+  pub bytes-are : run (directiveBytes h) s ≡ accepted (take (pduLength h) s)
+  pub end-is : end ≡ dataEnd h
+  pub code-in : headerLength h + 1 ≤ dataEnd h
+
+pub verified-directive : (h : PduHeader) (s : List ℕ) (end : ℕ) → accepted end ≡ run (verifyingDirective h) s → VerifiedDirective h s end
+unfolding verifyingDirective directiveBytes directivePart pduBytes
+verified-directive h s end e =
+    let p = passed-all (verifyingDirective h) s end (sym e) in
+    let q = p .1 .1 .1 .1 in
+    record {
+      long = p .0;
+      bytes-are = rw (le-ltb _ _ (p .0), p .1 .0, le-ltb _ _ (p .1 .1 .0), p .1 .1 .1 .0, q .0, q .1 .0);
+      end-is = sym (q .1 .1);
+      code-in = ltb-false _ _ (q .1 .0);
+    }
+
+pub directive-refused : (h : PduHeader) (s ns : List ℕ) → told ns ≡ run (verifyingDirective h) s → told ns ≡ run (directiveBytes h) s
+unfolding verifyingDirective
+directive-refused h s ns e = told-before ns (directiveBytes h) (dataEnd h) s e
+
+-- a directive PDU asks twice for bytes, and what it hands on are its first P bytes
+pub directive-two : (h : PduHeader) → AtMost (directiveBytes h) 2
+unfolding directiveBytes directivePart
+directive-two h = at-most-bind (pduBytes h) (directivePart h) 1 1 (pdu-one h) (λ p _. tt)
+
+pub directive-is : (h : PduHeader) (s p : List ℕ) → run (directiveBytes h) s ≡ accepted p → (pduLength h ≤ length s) × (take (pduLength h) s ≡ p)
+unfolding directiveBytes directivePart pduBytes
+directive-is h s p e =
+    let k = passed-all (directiveBytes h) s p e in
+    (k .0, k .1 .1 .1 .1 .1 .1)
+
+-- a PDU whose bytes are good passes, if it is a directive's and holds the code
+pub directive-passes : (h : PduHeader) (s p : List ℕ) → run (pduBytes h) s ≡ accepted p → 9 ≤ length s → 9 ≤ dataEnd h → h .kind ≡ FileDirective → headerLength h + 1 ≤ dataEnd h
+    → run (directiveBytes h) s ≡ accepted p
+unfolding directiveBytes directivePart
+directive-passes h s p e long e9 kind code =
+    run-bind (pduBytes h) (directivePart h) s
+    ∙ ap (λ (o : Answer (List ℕ)). andThen o (λ p. run (directivePart h p) s)) e
+    ∙ rw (le-ltb _ _ long, le-ltb _ _ e9, ap pduTypeBit kind, le-ltb _ _ code)
+
+-- ---- writing
+
+pub refused-record : (h : PduHeader) (ns : List ℕ) → told ns ≡ judging h → told ns ≡ judgingDirective h
+unfolding judgingDirective directiveTests
+refused-record h ns e = refused-first h (notADirective h ∷ []) h ns e
+
+module _ (h : PduHeader) (good : Passed (recordTests h)) where
+  pub not-directive : h .kind ≡ FileData → told (21 ∷ []) ≡ judgingDirective h
+  unfolding told judgingDirective directiveTests
+  not-directive k = rw (passed-on (recordTests h) (notADirective h ∷ []) h good, ap pduTypeBit k)
+
+  pub a-directive : h .kind ≡ FileDirective → accepted h ≡ judgingDirective h
+  unfolding judgingDirective directiveTests
+  a-directive k = rw (passed-on (recordTests h) (notADirective h ∷ []) h good, ap pduTypeBit k)
+
+-- what the judgement refuses, every judgement that begins with it refuses alike, and what it accepts passed every test
+pub refused-directive : {A : Type 0} (h : PduHeader) (us : List Test) (a : A) (ns : List ℕ) → told ns ≡ judgingDirective h → told ns ≡ firstOf (directiveTests h ++ us) a
+unfolding judgingDirective
+refused-directive h us a ns e = refused-on ns (directiveTests h) us h a e
+
+pub passed-directive : (h k : PduHeader) → accepted k ≡ judgingDirective h → Passed (directiveTests h)
+unfolding judgingDirective
+passed-directive h k e = passed (directiveTests h) k h e .0
+
+-- so it is a record that passed, of PDU type 0
+pub directive-good : (h : PduHeader) → Passed (directiveTests h) → Passed (recordTests h)
+unfolding directiveTests
+directive-good h p = passed-first (recordTests h) (notADirective h ∷ []) p
+
+pub directive-kind : (h : PduHeader) → Passed (directiveTests h) → h .kind ≡ FileDirective
+unfolding directiveTests
+directive-kind h p = sym (pduType-back (h .kind)) ∙ ap pduTypeIf (passed-last (recordTests h) (notADirective h ∷ []) p .0)
+
+-- direction, file flag and length are not judged
+pub with-directive : (d : Direction) (f : LargeFileFlag) (l : ℕ) (h : PduHeader) → directiveTests (withLength l (withFileFlag f (withDirection d h))) ≡ directiveTests h
+unfolding directiveTests
+with-directive d f l h = ap (λ (ts : List Test). ts ++ (notADirective h ∷ [])) (with-tests d f l h)

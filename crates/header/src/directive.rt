@@ -1,0 +1,69 @@
+// What all directive PDUs share: their reader's tests before the directive code, and their writer's judgement of a record. File data, PDU type 1, is refusal 21.
+ghost use mathlib.Core.Path.{_≡_};
+ghost use Rattle.fields.specs.Staged.{run};
+ghost use Rattle.header.specs.Answers.{headerAnswer, lengthAnswer};
+ghost use Rattle.header.specs.Directive.{verifyingDirective, judgingDirective};
+use crate::HeaderResult;
+use crate::LengthResult;
+use crate::PduHeader;
+use crate::PduType;
+use fields::Refusal;
+
+// A directive code and a normal scope: the fewest bytes that the Rust asks for.
+const LEAST_LEN: usize = 9;
+
+fn data_short(end: usize, expected: usize) -> LengthResult
+    ensures { λ r. ⌜ r ≡ LengthResult.Refused (Refusal.DataFieldTooSmall end expected) ⌝ }
+{
+    LengthResult::Refused(Refusal::DataFieldTooSmall { end, expected })
+}
+
+impl PduHeader {
+    // E: where the data ends, behind the directive code, of a header that was read. The checksum comes first: a damaged bit of the PDU type
+    // is a checksum fault.
+    pub fn verify_directive(self, buf: &[u8]) -> LengthResult
+        ensures { λ r. ⌜ lengthAnswer r ≡ run (verifyingDirective self) (now (buf .entry)) ⌝ }
+    {
+        let verified = self.verify_read(buf);
+        match verified {
+            LengthResult::Refused(refusal) => LengthResult::Refused(refusal),
+            LengthResult::Length(end) => {
+                if buf.len() < LEAST_LEN {
+                    return LengthResult::Refused(Refusal::FromSliceTooSmall {
+                        found: buf.len(),
+                        expected: LEAST_LEN,
+                    });
+                }
+                if end < LEAST_LEN {
+                    return data_short(end, LEAST_LEN);
+                }
+                let kind = self.kind;
+                if let PduType::FileData = kind {
+                    return LengthResult::Refused(Refusal::NotADirective);
+                }
+                let code = self.header_len();
+                if end < code + 1 {
+                    return data_short(end, code + 1);
+                }
+                LengthResult::Length(end)
+            }
+        }
+    }
+
+    // The record itself, if a directive PDU can have it.
+    pub fn judged_directive(self) -> HeaderResult
+        ensures { λ r. ⌜ headerAnswer r ≡ judgingDirective self ⌝ }
+    {
+        let judged = self.judged();
+        match judged {
+            HeaderResult::Refused(refusal) => HeaderResult::Refused(refusal),
+            HeaderResult::Header(_) => {
+                let kind = self.kind;
+                if let PduType::FileData = kind {
+                    return HeaderResult::Refused(Refusal::NotADirective);
+                }
+                HeaderResult::Header(self)
+            }
+        }
+    }
+}
