@@ -1,14 +1,15 @@
 -- Laws of widths: there are four, and a value fits a width where the bytes above it are zero.
 -- Assumes nothing.
 use mathlib.Core.Path.{_≡_, refl, sym}
-use mathlib.Core.Bool.{true, false}
+use mathlib.Core.Bool.{Bool, true, false, _||_}
 use Prim.Native.Nat.{ℕ, zero, suc, _+_, _*_, _/_, _^_, _≤_, _<_}
 use native.Mathlib.Omega.{arith}
 use native.Mathlib.Nat.{pow-suc, pow-le-pow-right, one-le-pow, div-eq-of-lt, div-lt-iff-lt-mul, one-mul, lt-of-not-le}
 use native.Mathlib.Decide.{decLe}
 use lib.Pow.{pow-add}
+use lib.Count.{ones}
 use lib.Dec.{eqb, ltb}
-use borrow.Author.Tests.{le-ltb, lt-ltb, ltb-true, eq-eqb, ne-eqb}
+use borrow.Author.Tests.{le-leb, lt-leb, le-ltb, lt-ltb, ltb-true, eq-eqb, ne-eqb}
 use Rattle.fields.specs.Width.{isWidth, fitsWidth}
 
 -- ---- the four widths
@@ -20,12 +21,12 @@ pub record Small (w : ℕ) : Type 0 where
 above-none : (w : ℕ) → 8 < w → isWidth w ≡ true → ⊥
 unfolding isWidth
 above-none w l e =
-    let f : false ≡ true = rw (ne-eqb w 1 (omega arith), ne-eqb w 2 (omega arith), ne-eqb w 4 (omega arith), ne-eqb w 8 (omega arith)) at e in
+    let f : false ≡ true = rw (lt-leb w 8 l) at e in
     let z : _≡_ {A = ℕ} 0 1 = cc in
     omega arith
 
 zero-none : isWidth 0 ≡ true → ⊥
-unfolding isWidth
+unfolding isWidth ones
 zero-none e = let z : _≡_ {A = ℕ} 0 1 = cc in omega arith
 
 -- a width is at least 1 and at most 8
@@ -35,6 +36,37 @@ width-small (suc w) e =
     elim (decLe (suc w) 8) [
       | yes h ↦ record { positive = omega arith; most = h }
       | no k ↦ let l : 8 < suc w = lt-of-not-le k in absurd (above-none (suc w) l e)
+    ]
+
+-- the four comparisons
+abbrev pub isOfFour : ℕ → Bool
+isOfFour w = eqb w 1 || eqb w 2 || eqb w 4 || eqb w 8
+
+counted : (w : ℕ) → w ≤ 8 → eqb (ones w) 1 ≡ isOfFour w
+unfolding ones
+counted zero h = refl
+counted (suc zero) h = refl
+counted (suc (suc zero)) h = refl
+counted (suc (suc (suc zero))) h = refl
+counted (suc (suc (suc (suc zero)))) h = refl
+counted (suc (suc (suc (suc (suc zero))))) h = refl
+counted (suc (suc (suc (suc (suc (suc zero)))))) h = refl
+counted (suc (suc (suc (suc (suc (suc (suc zero))))))) h = refl
+counted (suc (suc (suc (suc (suc (suc (suc (suc zero)))))))) h = refl
+counted (suc (suc (suc (suc (suc (suc (suc (suc (suc w))))))))) h = absurd (omega arith)
+
+above-four : (w : ℕ) → 8 < w → false ≡ isOfFour w
+above-four w h = rw (ne-eqb w 1 (omega arith), ne-eqb w 2 (omega arith), ne-eqb w 4 (omega arith), ne-eqb w 8 (omega arith))
+
+-- a number is a width exactly where it is 1, 2, 4 or 8
+pub four-widths : (w : ℕ) → isWidth w ≡ isOfFour w
+unfolding isWidth
+four-widths w =
+    elim (decLe w 8) [
+      | yes h ↦ rw (le-leb w 8 h) (counted w h)
+      | no k ↦
+          let l : 8 < w = lt-of-not-le k in
+          rw (lt-leb w 8 l) (above-four w l)
     ]
 
 -- ---- which values fit

@@ -1,12 +1,13 @@
 -- Values with a width in bytes (document 01, `util.rs`): which widths there are, which values fit one, and which fields are equal.
 use Prim.Native.Nat.{ℕ, _^_}
-use mathlib.Core.Bool.{Bool, _||_}
-use lib.Dec.{eqb, ltb}
+use mathlib.Core.Bool.{Bool, _&&_}
+use lib.Count.{ones}
+use lib.Dec.{eqb, leb, ltb}
 use Rattle.fields.specs.declared.field.UnsignedByteField.{UnsignedByteField}
 
--- the standard allows every width from 1 to 8; like the Rust, the port has four
+-- a width is at most 8 and has exactly one bit set: the standard allows every width from 1 to 8; like the Rust, the port has four
 unfoldable pub isWidth : ℕ → Bool
-isWidth w = eqb w 1 || eqb w 2 || eqb w 4 || eqb w 8
+isWidth w = leb w 8 && eqb (ones w) 1
 
 -- v has at most w bytes
 unfoldable pub fitsWidth : ℕ → ℕ → Bool

@@ -14,20 +14,11 @@ pub struct EntityId(pub u64);
 // The sequence number of a transaction. It is another type than an identifier, so that neither is taken for the other.
 pub struct TransactionSeqNum(pub UnsignedByteField);
 
-// Whether a width is one of the four that the port, like the Rust, has.
+// Whether a width is one that the port, like the Rust, has: at most 8, and exactly one bit of it is set.
 pub fn is_width(width: u8) -> bool
     ensures { λ r. ⌜ r ≡ isWidth width ⌝ }
 {
-    if width == 1 {
-        return true;
-    }
-    if width == 2 {
-        return true;
-    }
-    if width == 4 {
-        return true;
-    }
-    width == 8
+    width <= 8 && u8::count_ones(width) == 1
 }
 
 impl UnsignedByteField {

@@ -1,6 +1,7 @@
 -- The starred cases of document 01, computed; and that four refusals as short are heard.
 -- Assumes nothing.
 use mathlib.Core.Path.{refl}
+use lib.Count.{ones}
 use Rattle.fields.specs.Width.{isWidth}
 use Rattle.fields.specs.BigEndian.{beFrom, beValue, numberAt}
 use Rattle.fields.specs.Checksum.{bitStep, bitSteps, byteStep, checksumFrom, checksumOf}
@@ -15,9 +16,9 @@ use Rattle.nak.specs.Requests.{areaOf, pairsOf}
 use Rattle.nak.specs.Demands.{StarredCases, FourAreHeard}
 
 pub starred-cases : StarredCases
-unfolding isWidth beFrom beValue numberAt bitStep bitSteps byteStep checksumFrom checksumOf headerLength pduLength dataEnd isSet headerIn readingHeader pduBytes directivePart directiveBytes isKnown areaStart nakIn readingScope readingDirective readingData readingNak areaOf pairsOf
+unfolding ones isWidth beFrom beValue numberAt bitStep bitSteps byteStep checksumFrom checksumOf headerLength pduLength dataEnd isSet headerIn readingHeader pduBytes directivePart directiveBytes isKnown areaStart nakIn readingScope readingDirective readingData readingNak areaOf pairsOf
 starred-cases = refl
 
 pub four-are-heard : FourAreHeard
-unfolding isWidth beFrom beValue numberAt bitStep bitSteps byteStep checksumFrom checksumOf headerLength pduLength dataEnd isSet headerIn readingHeader pduBytes directivePart directiveBytes isKnown areaStart nakIn readingScope readingDirective readingData readingNak
+unfolding ones isWidth beFrom beValue numberAt bitStep bitSteps byteStep checksumFrom checksumOf headerLength pduLength dataEnd isSet headerIn readingHeader pduBytes directivePart directiveBytes isKnown areaStart nakIn readingScope readingDirective readingData readingNak
 four-are-heard = refl
