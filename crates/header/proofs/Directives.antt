@@ -113,25 +113,25 @@ directive-passes h s p e long e9 kind code =
 
 pub refused-record : (h : PduHeader) (ns : List ℕ) → told ns ≡ judging h → told ns ≡ judgingDirective h
 unfolding judgingDirective directiveTests
-refused-record h ns e = refused-first h (notADirective h ∷ []) h ns e
+refused-record h ns e = refused-first h (notADirective h ∷ []) (headerLength h) ns e
 
 module _ (h : PduHeader) (good : Passed (recordTests h)) where
   pub not-directive : h .kind ≡ FileData → told (21 ∷ []) ≡ judgingDirective h
   unfolding told judgingDirective directiveTests
-  not-directive k = rw (passed-on (recordTests h) (notADirective h ∷ []) h good, ap pduTypeBit k)
+  not-directive k = rw (passed-on (recordTests h) (notADirective h ∷ []) (headerLength h) good, ap pduTypeBit k)
 
-  pub a-directive : h .kind ≡ FileDirective → accepted h ≡ judgingDirective h
+  pub a-directive : (n : ℕ) → n ≡ headerLength h → h .kind ≡ FileDirective → accepted n ≡ judgingDirective h
   unfolding judgingDirective directiveTests
-  a-directive k = rw (passed-on (recordTests h) (notADirective h ∷ []) h good, ap pduTypeBit k)
+  a-directive n e k = rw (passed-on (recordTests h) (notADirective h ∷ []) (headerLength h) good, ap pduTypeBit k, e)
 
 -- what the judgement refuses, every judgement that begins with it refuses alike, and what it accepts passed every test
 pub refused-directive : {A : Type 0} (h : PduHeader) (us : List Test) (a : A) (ns : List ℕ) → told ns ≡ judgingDirective h → told ns ≡ firstOf (directiveTests h ++ us) a
 unfolding judgingDirective
-refused-directive h us a ns e = refused-on ns (directiveTests h) us h a e
+refused-directive h us a ns e = refused-on ns (directiveTests h) us (headerLength h) a e
 
-pub passed-directive : (h k : PduHeader) → accepted k ≡ judgingDirective h → Passed (directiveTests h)
+pub passed-directive : (h : PduHeader) (n : ℕ) → accepted n ≡ judgingDirective h → Passed (directiveTests h)
 unfolding judgingDirective
-passed-directive h k e = passed (directiveTests h) k h e .0
+passed-directive h n e = passed (directiveTests h) n (headerLength h) e .0
 
 -- so it is a record that passed, of PDU type 0
 pub directive-good : (h : PduHeader) → Passed (directiveTests h) → Passed (recordTests h)

@@ -47,5 +47,6 @@ verifyingDirective h = directiveBytes h >> accept (dataEnd h)
 unfoldable pub directiveTests : PduHeader → List Test
 directiveTests h = recordTests h ++ (notADirective h ∷ [])
 
-unfoldable pub judgingDirective : PduHeader → Answer PduHeader
-judgingDirective h = firstOf (directiveTests h) h
+-- those; else h
+unfoldable pub judgingDirective : PduHeader → Answer ℕ
+judgingDirective h = firstOf (directiveTests h) (headerLength h)

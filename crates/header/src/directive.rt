@@ -1,7 +1,7 @@
 // What all directive PDUs share: their reader's tests before the directive code, and their writer's judgement of a record. File data, PDU type 1, is refusal 21.
 ghost use mathlib.Core.Path.{_≡_};
 ghost use Rattle.fields.specs.Staged.{run};
-ghost use Rattle.header.specs.Answers.{headerAnswer, lengthAnswer};
+ghost use Rattle.header.specs.Answers.{lengthAnswer};
 ghost use Rattle.header.specs.Directive.{verifyingDirective, judgingDirective};
 use crate::HeaderResult;
 use crate::LengthResult;
@@ -50,19 +50,19 @@ impl PduHeader {
         }
     }
 
-    // The record itself, if a directive PDU can have it.
-    pub fn judged_directive(self) -> HeaderResult
-        ensures { λ r. ⌜ headerAnswer r ≡ judgingDirective self ⌝ }
+    // h, the bytes of the header, if a directive PDU can have it. Of the two the record is the longer to hand back.
+    pub fn judged_directive(self) -> LengthResult
+        ensures { λ r. ⌜ lengthAnswer r ≡ judgingDirective self ⌝ }
     {
         let judged = self.judged();
         match judged {
-            HeaderResult::Refused(refusal) => HeaderResult::Refused(refusal),
+            HeaderResult::Refused(refusal) => LengthResult::Refused(refusal),
             HeaderResult::Header(_) => {
                 let kind = self.kind;
                 if let PduType::FileData = kind {
-                    return HeaderResult::Refused(Refusal::NotADirective);
+                    return LengthResult::Refused(Refusal::NotADirective);
                 }
-                HeaderResult::Header(self)
+                LengthResult::Length(self.header_len())
             }
         }
     }

@@ -10,7 +10,7 @@ use lib.ListN.{length, getD, drop, length-drop, drop-of-length-le}
 use lib.Seq.{drop-cons, drop-drop}
 use borrow.Author.Tests.{lt-leb, le-leb, eqb-true, eqb-false, eq-eqb, ne-eqb}
 use Rattle.fields.specs.BigEndian.{numberAt, beAt}
-use Rattle.fields.specs.Answer.{Answer, accepted, short, refused, told, andThen}
+use Rattle.fields.specs.Answer.{Answer, accepted, told, andThen}
 use Rattle.fields.specs.Staged.{run}
 use Rattle.fields.proofs.BigEndian.{at-number, number-drop}
 use Rattle.fields.proofs.Judging.{told-on}
@@ -18,13 +18,12 @@ use Rattle.header.specs.declared.PduHeader.{PduHeader}
 use Rattle.header.specs.declared.flags.LargeFileFlag.{LargeFileFlag}
 use Rattle.header.specs.Comparing.{sameHeader}
 use Rattle.nak.specs.declared.Nak.{Nak}
-use Rattle.nak.specs.declared.compare.Likeness.{Likeness}
 use Rattle.nak.specs.Nak.{offsetWidth}
 use Rattle.nak.specs.Reading.{readingNak}
 use Rattle.nak.specs.Requests.{areaOf}
 use Rattle.nak.specs.Writing.{judgingNak}
 use Rattle.nak.specs.Comparing.{sameNak, holdsNumbers, comparing}
-use Rattle.nak.specs.Within.{likening}
+use Rattle.nak.specs.Within.{comparingRead}
 
 -- ---- header and scope
 
@@ -41,23 +40,6 @@ module _ (n : Nak) (w : PduHeader) (start end : ℕ) where
     pub the-end : n .start ≡ start → eqb (n .end) end ≡ sameNak n w start end
     unfolding sameNak
     the-end e = rw (h, eq-eqb _ _ e)
-
-module _ (file : LargeFileFlag) (h : PduHeader) (start end count : ℕ) (s : List ℕ) where
-  pub refused-reading : (ns : List ℕ) → told ns ≡ run readingNak s → told ns ≡ likening file h start end count s
-  unfolding likening
-  refused-reading ns e = sym (told-on ns _) ∙ ap (λ (o : Answer Nak). andThen o (λ n. andThen (judgingNak file h start end count) (λ w. accepted (record { nak = n; same = sameNak n w start end })))) e
-
-  module _ (n : Nak) (e : accepted n ≡ run readingNak s) where
-    rest : andThen (judgingNak file h start end count) (λ w. accepted (record { nak = n; same = sameNak n w start end })) ≡ likening file h start end count s
-    unfolding likening
-    rest = ap (λ (o : Answer Nak). andThen o (λ n. andThen (judgingNak file h start end count) (λ w. accepted (record { nak = n; same = sameNak n w start end })))) e
-
-    pub refused-judging : (ns : List ℕ) → told ns ≡ judgingNak file h start end count → told ns ≡ likening file h start end count s
-    refused-judging ns d = sym (told-on ns _) ∙ ap (λ (o : Answer PduHeader). andThen o (λ w. accepted (record { nak = n; same = sameNak n w start end }))) d ∙ rest
-
-    pub likened : (w : PduHeader) (b : Bool) → accepted w ≡ judgingNak file h start end count → b ≡ sameNak n w start end → accepted (record { nak = n; same = b }) ≡ likening file h start end count s
-    likened w b d p =
-        ap (λ (x : Bool). accepted (record { nak = n; same = x })) p ∙ ap (λ (o : Answer PduHeader). andThen o (λ w. accepted (record { nak = n; same = sameNak n w start end }))) d ∙ rest
 
 -- ---- the numbers
 
@@ -98,40 +80,44 @@ numbers-end w area ns at i h e = rw (drop-of-length-le ns e, length-drop) (go (e
 
 -- ---- the whole
 
--- going on from what goes on
-then-then : {A B C : Type 0} (o : Answer A) (f : A → Answer B) (g : B → Answer C) → andThen (andThen o f) g ≡ andThen o (λ a. andThen (f a) g)
-then-then (accepted a) f g = refl
-then-then (short l n) f g = refl
-then-then (refused ns) f g = refl
+module _ (file : LargeFileFlag) (h : PduHeader) (start end count : ℕ) (n : Nak) (held : Bool) where
+  pub refused-judging : (ns : List ℕ) → told ns ≡ judgingNak file h start end count → told ns ≡ comparingRead file h start end count n held
+  unfolding comparingRead
+  refused-judging ns e = sym (told-on ns _) ∙ ap (λ (o : Answer PduHeader). andThen o (λ w. accepted (sameNak n w start end && held))) e
+
+  module _ (w : PduHeader) (e : accepted w ≡ judgingNak file h start end count) where
+    rest : accepted (sameNak n w start end && held) ≡ comparingRead file h start end count n held
+    unfolding comparingRead
+    rest = ap (λ (o : Answer PduHeader). andThen o (λ w. accepted (sameNak n w start end && held))) e
+
+    module _ (k : PduHeader) (same : Bool) (pk : k ≡ w) (ps : same ≡ sameNak n k start end) where
+      is : accepted (same && held) ≡ comparingRead file h start end count n held
+      is = ap (λ (b : Bool). accepted (b && held)) (ps ∙ ap (λ (x : PduHeader). sameNak n x start end) pk) ∙ rest
+
+      pub not-alike : same ≡ false → accepted false ≡ comparingRead file h start end count n held
+      not-alike p = ap (λ (b : Bool). accepted (b && held)) (sym p) ∙ is
+
+      pub alike : same ≡ true → accepted held ≡ comparingRead file h start end count n held
+      alike p = ap (λ (b : Bool). accepted (b && held)) (sym p) ∙ is
 
 module _ (file : LargeFileFlag) (h : PduHeader) (start end : ℕ) (numbers s : List ℕ) where
-  abbrev decide : Likeness → Answer Bool
-  decide l = accepted (l .same && holdsNumbers (offsetWidth file) (areaOf (l .nak) s) numbers)
+  abbrev decide : Nak → Answer Bool
+  decide n = comparingRead file h start end (length numbers) n (holdsNumbers (offsetWidth file) (areaOf n s) numbers)
 
-  -- comparing is likening, and then the list
-  likens : andThen (likening file h start end (length numbers) s) decide ≡ comparing file h start end numbers s
-  unfolding likening comparing
-  likens =
-      then-then (run readingNak s) _ decide
-      ∙ (λ i. andThen (run readingNak s) (λ n. then-then (judgingNak file h start end (length numbers)) (λ w. accepted (record { nak = n; same = sameNak n w start end })) decide i))
+  pub refused-reading : (ns : List ℕ) → told ns ≡ run readingNak s → told ns ≡ comparing file h start end numbers s
+  unfolding comparing comparingRead
+  refused-reading ns e = sym (told-on ns decide) ∙ ap (λ (o : Answer Nak). andThen o decide) e
 
-  pub refused-compare : (ns : List ℕ) → told ns ≡ likening file h start end (length numbers) s → told ns ≡ comparing file h start end numbers s
-  refused-compare ns e = sym (told-on ns decide) ∙ ap (λ (o : Answer Likeness). andThen o decide) e ∙ likens
-
-  module _ (l : Likeness) (e : accepted l ≡ likening file h start end (length numbers) s) where
-    decided : decide l ≡ comparing file h start end numbers s
-    decided = ap (λ (o : Answer Likeness). andThen o decide) e ∙ likens
-
-    pub not-alike : l .same ≡ false → accepted false ≡ comparing file h start end numbers s
-    not-alike p = ap (λ (b : Bool). accepted (b && holdsNumbers (offsetWidth file) (areaOf (l .nak) s) numbers)) (sym p) ∙ decided
-
-    pub list-decides : (u : ℕ) (area : List ℕ) (b : Bool) → l .same ≡ true → u ≡ offsetWidth file → area ≡ areaOf (l .nak) s → b ≡ holdsNumbers u area numbers → accepted b ≡ comparing file h start end numbers s
-    list-decides u area b p pu pa pb =
-        ap accepted (pb ∙ rw (pu, pa))
-        ∙ ap (λ (c : Bool). accepted (c && holdsNumbers (offsetWidth file) (areaOf (l .nak) s) numbers)) (sym p) ∙ decided
+  module _ (n : Nak) (e : accepted n ≡ run readingNak s) where
+    pub list-decides : (u : ℕ) (area : List ℕ) (b : Bool) → u ≡ offsetWidth file → area ≡ areaOf n s → b ≡ holdsNumbers u area numbers
+        → comparingRead file h start end (length numbers) n b ≡ comparing file h start end numbers s
+    unfolding comparing comparingRead
+    list-decides u area b pu pa pb =
+        ap (comparingRead file h start end (length numbers) n) (pb ∙ rw (pu, pa)) ∙ ap (λ (o : Answer Nak). andThen o decide) e
 
     -- with no list, no byte may stand in the area
-    pub nothing-decides : (n : ℕ) (area : List ℕ) → l .same ≡ true → area ≡ areaOf (l .nak) s → n ≡ length area → numbers ≡ [] → accepted (eqb n 0) ≡ comparing file h start end numbers s
+    pub nothing-decides : (m : ℕ) (area : List ℕ) → area ≡ areaOf n s → m ≡ length area → numbers ≡ []
+        → comparingRead file h start end (length numbers) n (eqb m 0) ≡ comparing file h start end numbers s
     unfolding holdsNumbers
-    nothing-decides n area p pa pn none =
-        list-decides (offsetWidth file) area (eqb n 0) p refl pa (ap (λ (j : ℕ). eqb j 0) pn ∙ ap (holdsNumbers (offsetWidth file) area) (sym none))
+    nothing-decides m area pa pm none =
+        list-decides (offsetWidth file) area (eqb m 0) refl pa (ap (λ (j : ℕ). eqb j 0) pm ∙ ap (holdsNumbers (offsetWidth file) area) (sym none))

@@ -18,17 +18,17 @@ use Rattle.header.specs.declared.flags.Direction.the-variants.{TowardsSender}
 use Rattle.header.specs.declared.flags.LargeFileFlag.{LargeFileFlag}
 use Rattle.header.specs.declared.flags.LargeFileFlag.the-variants.{Normal, Large}
 use Rattle.header.specs.Flags.{crcBit}
-use Rattle.header.specs.Header.{headerLength, pduLength}
+use Rattle.header.specs.Header.{pduLength}
 use Rattle.header.specs.Directive.{directiveTests, judgingDirective}
 use Rattle.nak.specs.declared.write.NakWritten.{NakWritten}
-use Rattle.nak.specs.Nak.{offsetWidth, pairSize, areaStart}
+use Rattle.nak.specs.Nak.{pairSize, areaStart}
 use Rattle.nak.specs.Writing.{dataLength, mostPairs, filled, scopeFits, intoRoom, writingNak}
 use Rattle.nak.specs.Counting.{leastPacket, packetTooSmall, bySize, smaller, mostRequests, ofPairs, JustFit, MostRequestsFit}
 use Rattle.nak.proofs.Writing.{ToWrite, to-write, judged-nak, into-room}
 
-pub least-is : (h : PduHeader) (a w b : ℕ) → a ≡ headerLength h → w ≡ offsetWidth (h .file) → b ≡ crcBit (h .crc) → a + 1 + 2 * w + 2 * b ≡ leastPacket h
-unfolding leastPacket areaStart
-least-is h a w b p q r = rw (p, q, r)
+pub least-is : (h : PduHeader) (a b : ℕ) → a ≡ areaStart h → b ≡ crcBit (h .crc) → a + 2 * b ≡ leastPacket h
+unfolding leastPacket
+least-is h a b p q = rw (p, q)
 
 pub refused-count : (h : PduHeader) (size : ℕ) (ns : List ℕ) → told ns ≡ judgingDirective h → told ns ≡ mostRequests h size
 unfolding mostRequests

@@ -52,7 +52,7 @@ use Rattle.nak.proofs.Reading.{scope-whole, nak-code, read-header}
 use Rattle.nak.proofs.Walking.{within}
 use Rattle.nak.proofs.Writing.{ToWrite, to-write, scope-fits, pairs-bytes, doubled, start-length, numbers-length, filled-flag}
 use Rattle.nak.proofs.Reserving.{finish-writes}
-use Rattle.nak.proofs.Comparing.{likened, list-decides}
+use Rattle.nak.proofs.Comparing.{alike, list-decides}
 use Rattle.nak.proofs.Demands.{one-nak-result}
 
 -- ---- the pairs, once over the width
@@ -325,8 +325,8 @@ comparing-says-yes file h start end room numbers t w lent e =
     let holds : holdsNumbers (offsetWidth file) (areaOf n s) numbers ≡ true =
     ap₂ (λ (u : ℕ) (x : List ℕ). holdsNumbers u x numbers) f (b .area) ∙ holds-self (offsetWidth (k .file)) numbers (subst (λ (u : ℕ). Lent u numbers) f lent) in
     let same : true ≡ sameNak n k start end = sym (rw (same-self k, eq-eqb start start refl, eq-eqb end end refl)) in
-    let likes = likened file h start end (length numbers) s n (sym (b .read)) k true (sym (judged-write file h start end (length numbers) room w (sym e))) same in
-    sym (list-decides file h start end numbers s (record { nak = n; same = true }) likes (offsetWidth file) (areaOf n s) true refl refl refl (sym holds))
+    let judged : accepted k ≡ judgingNak file h start end (length numbers) = sym (judged-write file h start end (length numbers) room w (sym e)) in
+    sym (alike file h start end (length numbers) n true k judged k true refl same refl ∙ list-decides file h start end numbers s n (sym (b .read)) (offsetWidth file) (areaOf n s) true refl refl (sym holds))
 
 -- ---- and yes means equal numbers
 

@@ -1,6 +1,6 @@
 -- Writing a NAK: its judgement at each exit, what an accepted one has, and the stores of its bytes. Once for both widths.
 -- Assumes nothing.
-use Prim.Native.Nat.{ℕ, suc, _+_, _*_, _/_, _%_, _^_, _≤_, _<_}
+use Prim.Native.Nat.{ℕ, suc, _+_, _-_, _*_, _/_, _%_, _^_, _≤_, _<_}
 use mathlib.Core.Path.{_≡_, refl, sym, ap, ap₂, _∙_}
 use mathlib.Core.Bool.{Bool, true, false, _&&_}
 use mathlib.Core.List.{List, [], _∷_, _++_, append-nil, append-assoc}
@@ -9,8 +9,8 @@ use native.Mathlib.Numerals.{add-one}
 use native.Mathlib.Omega.{arith}
 use lib.Arith.{digits-lt, digits-div, digits-mod}
 use lib.Dec.{eqb, lit<}
-use lib.ListN.{length, getD, take, drop, length-append, drop-of-length-le}
-use lib.Seq.{sets, sets-eq, length-sets, take-at, drop-cons}
+use lib.ListN.{length, getD, take, drop, length-append, length-drop, take-append-drop, drop-of-length-le}
+use lib.Seq.{sets, sets-eq, length-sets, length-take-le, take-at, drop-at, drop-cons, drop-drop}
 use borrow.Author.Tests.{lt-ltb, le-ltb, ltb-false, eq-eqb, ne-eqb, eqb-true, not-false}
 use Rattle.fields.specs.Width.{fitsWidth}
 use Rattle.fields.specs.BigEndian.{beBytes, bePut}
@@ -25,7 +25,7 @@ use Rattle.header.specs.declared.flags.CrcFlag.{CrcFlag}
 use Rattle.header.specs.declared.flags.LargeFileFlag.{LargeFileFlag}
 use Rattle.header.specs.declared.flags.LargeFileFlag.the-variants.{Normal, Large}
 use Rattle.header.specs.Flags.{crcBit}
-use Rattle.header.specs.Header.{headerLength, pduLength, headerBytes, withDirection, withFileFlag, withLength}
+use Rattle.header.specs.Header.{headerLength, pduLength, dataEnd, headerBytes, withDirection, withFileFlag, withLength}
 use Rattle.header.specs.Judging.{recordTests}
 use Rattle.header.specs.Directive.{directiveTests, judgingDirective}
 use Rattle.header.specs.Writing.{headerMemory}
@@ -33,11 +33,12 @@ use Rattle.header.specs.Verifying.{checksumBytes, crcAdded}
 use Rattle.header.proofs.Judging.{with-tests}
 use Rattle.header.proofs.Directives.{refused-directive, directive-good, directive-kind}
 use Rattle.header.proofs.Writing.{header-length, header-stored}
-use Rattle.header.proofs.Verifying.{pdu-sum, added-sets, checksum-length}
+use Rattle.header.proofs.Verifying.{pdu-sum, end-sum, added-sets, checksum-length}
 use Rattle.nak.specs.declared.write.NakWritten.{NakWritten}
 use Rattle.nak.specs.Nak.{offsetWidth, pairSize, areaStart}
 use Rattle.nak.specs.Writing.{numbersBytes, startBytes, nakOver, nakBytes, dataLength, mostPairs, filled, scopeFits, oddCount, scopeTooLarge, tooMany, noRoom, nakTests, judgingNak, intoRoom, writingNak, nakMemory}
-use Rattle.nak.specs.Within.{writingLength}
+use Rattle.nak.specs.Reserving.{areaIn}
+use Rattle.nak.specs.Within.{lengthInto, around}
 
 -- ---- the scope
 
@@ -124,6 +125,12 @@ module _ (file : LargeFileFlag) (h : PduHeader) (start end count : ℕ) where
         let u = passed-last (directiveTests h) (oddCount count ∷ scopeTooLarge file start end ∷ tooMany file (count / 2) ∷ []) (p .0) in
         rw (p .1) (ltb-false _ _ (u .1 .1 .0))
 
+    pub count-passed : Passed (nakTests file h start end count)
+    count-passed = passed (nakTests file h start end count) n (count / 2) e .0
+
+    pub filled-are : (k : PduHeader) → k ≡ filled file n h → k ≡ filled file (count / 2) h
+    filled-are k p = p ∙ ap (λ (m : ℕ). filled file m h) (passed (nakTests file h start end count) n (count / 2) e .1)
+
     pub counted-nak : accepted (filled file n h) ≡ judgingNak file h start end count
     unfolding judgingNak
     counted-nak =
@@ -140,25 +147,39 @@ no-room h room p e l = rw (← e, lt-ltb _ _ l)
 pub has-room : (h : PduHeader) (room p : ℕ) → p ≡ pduLength h → p ≤ room → accepted p ≡ firstOf (noRoom room h ∷ []) (pduLength h)
 has-room h room p e l = rw (← e, le-ltb _ _ l)
 
+-- a header that was filled in, and the length of its PDU
+abbrev pub handed-back : PduHeader → NakWritten
+handed-back k = record { header = k; length = pduLength k }
+
+-- whatever the tests and the header are
+module _ (ts : List Test) (k : PduHeader) (room : ℕ) where
+  abbrev with-room : List Test
+  with-room = ts ++ (noRoom room k ∷ [])
+
+  -- what the tests refuse is refused, and behind them the room decides
+  pub refused-length : {A : Type 0} (a : A) (ns : List ℕ) → told ns ≡ firstOf ts a → told ns ≡ lengthInto ts k room
+  unfolding lengthInto
+  refused-length a ns e = refused-on ns ts (noRoom room k ∷ []) a (pduLength k) e
+
+  pub room-decides : (j : PduHeader) → j ≡ k → Passed ts → firstOf (noRoom room j ∷ []) (pduLength j) ≡ lengthInto ts k room
+  unfolding lengthInto
+  room-decides j e good =
+      ap (λ (x : PduHeader). firstOf (noRoom room x ∷ []) (pduLength x)) e ∙ sym (passed-on ts (noRoom room k ∷ []) (pduLength k) good)
+
+  -- from the length to the answer
+  pub refused-into : (ns : List ℕ) → told ns ≡ lengthInto ts k room → told ns ≡ intoRoom ts k room
+  unfolding lengthInto intoRoom
+  refused-into ns e = rw (append-nil with-room) at (refused-on ns with-room [] (pduLength k) (handed-back k) e)
+
+  pub length-into : (n : ℕ) (j : PduHeader) → accepted n ≡ lengthInto ts k room → j ≡ k → accepted (handed-back j) ≡ intoRoom ts k room
+  unfolding lengthInto intoRoom
+  length-into n j e p = ap (λ (x : PduHeader). accepted (handed-back x)) p ∙ sym (all-passed with-room (handed-back k) (passed with-room n (pduLength k) e .0))
+
+  pub length-passed : (n : ℕ) → accepted n ≡ lengthInto ts k room → Passed ts
+  unfolding lengthInto
+  length-passed n e = passed-first ts (noRoom room k ∷ []) (passed with-room n (pduLength k) e .0)
+
 module _ (file : LargeFileFlag) (h : PduHeader) (start end count room : ℕ) where
-  abbrev filled-h : PduHeader
-  filled-h = filled file (count / 2) h
-
-  abbrev all-tests : List Test
-  all-tests = nakTests file h start end count ++ (noRoom room filled-h ∷ [])
-
-  pub refused-length : (ns : List ℕ) → told ns ≡ firstOf (nakTests file h start end count) (count / 2) → told ns ≡ writingLength file h start end count room
-  unfolding writingLength
-  refused-length ns e = refused-on ns (nakTests file h start end count) _ _ _ e
-
-  pub room-decides : (n : ℕ) (k : PduHeader) → accepted n ≡ firstOf (nakTests file h start end count) (count / 2) → k ≡ filled file n h
-      → firstOf (noRoom room k ∷ []) (pduLength k) ≡ writingLength file h start end count room
-  unfolding writingLength
-  room-decides n k e pk =
-      let p = passed (nakTests file h start end count) n (count / 2) e in
-      ap (λ (x : PduHeader). firstOf (noRoom room x ∷ []) (pduLength x)) (pk ∙ ap (λ (m : ℕ). filled file m h) (p .1))
-      ∙ sym (passed-on (nakTests file h start end count) (noRoom room filled-h ∷ []) (pduLength filled-h) (p .0))
-
   pub into-room : (w : PduHeader) → accepted w ≡ judgingNak file h start end count → intoRoom [] w room ≡ writingNak file h start end count room
   unfolding judgingNak writingNak intoRoom
   into-room w e =
@@ -166,20 +187,11 @@ module _ (file : LargeFileFlag) (h : PduHeader) (start end count room : ℕ) whe
       ap (λ (x : PduHeader). firstOf (noRoom room x ∷ []) (record { header = x; length = pduLength x })) (p .1)
       ∙ sym (passed-on (nakTests file h start end count) (noRoom room (filled file (count / 2) h) ∷ []) _ (p .0))
 
-  -- from the length to the answer
-  pub refused-write : (ns : List ℕ) → told ns ≡ writingLength file h start end count room → told ns ≡ writingNak file h start end count room
-  unfolding writingLength writingNak intoRoom
-  refused-write ns e =
-      let w : NakWritten = record { header = filled-h; length = pduLength filled-h } in
-      rw (append-nil all-tests) at (refused-on ns all-tests [] (pduLength filled-h) w e)
-
-  pub length-written : (n : ℕ) (k : PduHeader) → accepted n ≡ writingLength file h start end count room → k ≡ filled file (count / 2) h → accepted (record { header = k; length = n }) ≡ writingNak file h start end count room
-  unfolding writingLength writingNak intoRoom
-  length-written n k e pk =
-      let p = passed all-tests n (pduLength filled-h) e in
-      let w : NakWritten = record { header = filled-h; length = pduLength filled-h } in
-      let made : PduHeader → ℕ → Answer NakWritten = λ x m. accepted (record { header = x; length = m }) in
-      ap₂ made pk (p .1) ∙ sym (rw (append-nil all-tests) at (passed-on all-tests [] w (p .0)))
+  -- where the length is accepted, the NAK is written
+  pub can-write : (n : ℕ) (j : PduHeader) → accepted n ≡ lengthInto (nakTests file h start end count) (filled file (count / 2) h) room → j ≡ filled file (count / 2) h
+      → accepted (handed-back j) ≡ writingNak file h start end count room
+  unfolding writingNak
+  can-write n j e p = length-into (nakTests file h start end count) (filled file (count / 2) h) room n j e p
 
 -- ---- what an accepted one has
 
@@ -201,7 +213,7 @@ pub record ToWrite (file : LargeFileFlag) (h : PduHeader) (start end count room 
 pub start-stored : (h : PduHeader) (start end a w : ℕ) (s b₁ b₂ b₃ b₄ : List ℕ) → Passed (recordTests h) → areaStart h ≤ length s → scopeFits (h .file) start end ≡ true
     → a ≡ headerLength h → w ≡ offsetWidth (h .file) → w ≤ 8
     → b₁ ≡ headerMemory h s → b₂ ≡ bePut b₁ a 1 8 → b₃ ≡ bePut b₂ (a + 1) w start → b₄ ≡ bePut b₃ (a + 1 + w) w end
-    → (b₄ ≡ sets s 0 (startBytes h start end)) × (length b₄ ≡ length s)
+    → b₄ ≡ sets s 0 (startBytes h start end)
 unfolding startBytes areaStart
 start-stored h start end a w s b₁ b₂ b₃ b₄ good room scope pa pw small e₁ e₂ e₃ e₄ =
     let f = scope-fits (h .file) start end scope in
@@ -221,8 +233,7 @@ start-stored h start end a w s b₁ b₂ b₃ b₄ good room scope pa pw small e
     let p₃ : b₃ ≡ sets s 0 x₃ = then-sets x₂ (beBytes w start) s (a + 1) n₂ p₂ (e₃ ∙ put-sets b₂ (a + 1) w start small (omega arith) fs) in
     let m₃ : length b₃ ≡ length s = ap length p₃ ∙ length-sets s 0 x₃ in
     let p₄ : b₄ ≡ sets s 0 (x₃ ++ beBytes w end) = then-sets x₃ (beBytes w end) s (a + 1 + w) n₃ p₃ (e₄ ∙ put-sets b₃ (a + 1 + w) w end small (omega arith) fe) in
-    let whole : b₄ ≡ sets s 0 (x₁ ++ beBytes 1 8 ++ beBytes (offsetWidth (h .file)) start ++ beBytes (offsetWidth (h .file)) end) = p₄ ∙ rw pw in
-    (whole, ap length p₄ ∙ length-sets s 0 (x₃ ++ beBytes w end))
+    p₄ ∙ rw pw
 
 -- a turn of the loop over the numbers, and its end: what is left to do
 pub number-turn : (w at i v : ℕ) (l m ns : List ℕ) → w ≤ 8 → at + w * length ns ≤ length l → i < length ns → v ≡ getD ns i 0 → v < 256 ^ w → m ≡ bePut l (at + w * i) w v
@@ -325,26 +336,45 @@ module _ (file : LargeFileFlag) (h : PduHeader) (start end count room : ℕ) (w 
         whole = rw is (filled-whole file h count even);
       }
 
--- there is room for header, directive and scope, and for the numbers behind them
-pub start-room : (file : LargeFileFlag) (h : PduHeader) (start end count room : ℕ) (w : NakWritten) → ToWrite file h start end count room w → areaStart (w .header) ≤ room
-start-room file h start end count room w z = omega (arith, z .whole, z .room-is, z .length-is)
-
+-- the request area lies before the end of the data, and there is room for the numbers
 pub numbers-room : (file : LargeFileFlag) (h : PduHeader) (start end count room : ℕ) (w : NakWritten) → ToWrite file h start end count room w → areaStart (w .header) + offsetWidth file * count ≤ room
 numbers-room file h start end count room w z = omega (arith, z .whole, z .room-is, z .length-is)
+
+pub area-before : (file : LargeFileFlag) (h : PduHeader) (start end count room : ℕ) (w : NakWritten) → ToWrite file h start end count room w → areaStart (w .header) + offsetWidth file * count ≡ dataEnd (w .header)
+area-before file h start end count room w z = omega (arith, z .whole, end-sum (w .header))
+
+-- what is asked of a header and a buffer, of whose length nothing was lost, before the NAK is stored around its requests
+pub ready : (file : LargeFileFlag) (h : PduHeader) (start end count room : ℕ) (k : PduHeader) → accepted (handed-back k) ≡ writingNak file h start end count room → (m : ℕ) → m ≡ room
+    → Passed (recordTests k) × (areaStart k ≤ dataEnd k) × (pduLength k ≤ m) × (scopeFits (k .file) start end ≡ true)
+ready file h start end count room k e m q =
+    let z = to-write file h start end count room (handed-back k) e in
+    (z .good, omega (arith, area-before file h start end count room (handed-back k) z), rw q (z .room-is), z .scope)
 
 pub start-length : (h : PduHeader) (start end : ℕ) → length (startBytes h start end) ≡ areaStart h
 unfolding startBytes areaStart
 start-length h start end = simp (length-append, be-length, header-length) (omega arith)
 
--- ---- an accepted write, from what its calls left in the buffer
+-- ---- what is stored around the requests
 
-pub nothing-written : (file : LargeFileFlag) (h : PduHeader) (start end : ℕ) (numbers s ns : List ℕ) → told ns ≡ writingNak file h start end (length numbers) (length s)
-    → (told ns ≡ writingNak file h start end (length numbers) (length s)) × (s ≡ nakMemory file h start end numbers s)
-unfolding nakMemory
-nothing-written file h start end numbers s ns e = (e, told-leaves ns _ _ s e)
+-- where the data ends
+pub end-is : (h : PduHeader) (b p : ℕ) → b ≡ crcBit (h .crc) → p ≡ pduLength h → (2 * b ≤ p) × (p - 2 * b ≡ dataEnd h)
+end-is h b p e q = (omega (arith, end-sum h), omega (arith, end-sum h))
+
+-- bytes that are stored in front leave those behind them in place
+in-place : (xs s : List ℕ) (n : ℕ) → length xs + n ≤ length s → sets s 0 xs ≡ sets s 0 (xs ++ take n (drop (length xs) s))
+in-place xs s n h =
+    let D = drop (length xs) s in
+    let T = take n D in
+    let lD : length D ≡ length s - length xs = length-drop (length xs) s in
+    let lT : length T ≡ n = length-take-le n D (omega arith) in
+    let lX : length (xs ++ T) ≡ length xs + n = length-append xs T ∙ ap (λ (x : ℕ). length xs + x) lT in
+    let left : sets s 0 xs ≡ xs ++ D = sets-eq xs s 0 (omega arith) ∙ ap (λ (j : ℕ). xs ++ drop j s) (zero-add (length xs)) in
+    let right : sets s 0 (xs ++ T) ≡ (xs ++ T) ++ drop n D =
+    sets-eq (xs ++ T) s 0 (omega arith) ∙ ap (λ (j : ℕ). (xs ++ T) ++ drop j s) (zero-add (length (xs ++ T)) ∙ lX) ∙ ap (λ (z : List ℕ). (xs ++ T) ++ z) (sym (drop-drop n (length xs) s)) in
+    left ∙ sym (right ∙ append-assoc xs T (drop n D) ∙ ap (λ (z : List ℕ). xs ++ z) (take-append-drop n D))
 
 -- a NAK that lacks only its checksum: start and request area stand in the buffer, and the checksum goes behind them
-pub sealed : (k : PduHeader) (start end n : ℕ) (area s b₁ b₂ : List ℕ) → n ≡ areaStart k + length area → n + 2 * crcBit (k .crc) ≤ length s
+sealed : (k : PduHeader) (start end n : ℕ) (area s b₁ b₂ : List ℕ) → n ≡ areaStart k + length area → n + 2 * crcBit (k .crc) ≤ length s
     → b₁ ≡ sets s 0 (startBytes k start end ++ area) → b₂ ≡ crcAdded (k .crc) n b₁ → b₂ ≡ nakOver k start end area ++ drop (length (nakOver k start end area)) s
 unfolding nakOver
 sealed k start end n area s b₁ b₂ pn fit e₁ e₂ =
@@ -359,29 +389,80 @@ sealed k start end n area s b₁ b₂ pn fit e₁ e₂ =
     let lXC : length (X ++ C) ≤ length s = omega (arith, length-append X C) in
     p ∙ sets-eq (X ++ C) s 0 (omega arith) ∙ ap (λ (j : ℕ). (X ++ C) ++ drop j s) (zero-add (length (X ++ C)))
 
-module _ (file : LargeFileFlag) (h : PduHeader) (start end : ℕ) (numbers s : List ℕ) (w : NakWritten)
-    (e : accepted w ≡ writingNak file h start end (length numbers) (length s)) where
-  pub nak-written : (u n : ℕ) (b₁ b₂ b₃ : List ℕ) → u ≡ offsetWidth file → n ≡ areaStart (w .header)
-      → b₁ ≡ sets s 0 (startBytes (w .header) start end) → b₂ ≡ sets b₁ n (numbersBytes u numbers) → b₃ ≡ crcAdded (w .header .crc) (n + u * length numbers) b₂
-      → (accepted w ≡ writingNak file h start end (length numbers) (length s)) × (b₃ ≡ nakMemory file h start end numbers s)
-  unfolding nakMemory nakBytes
-  nak-written u n b₁ b₂ b₃ pu pn e₁ e₂ e₃ =
-      let z = to-write file h start end (length numbers) (length s) w e in
-      let k = w .header in
-      let pw : u ≡ offsetWidth (k .file) = pu ∙ sym (ap offsetWidth (z .flag)) in
+pub stored-around : (k : PduHeader) (start end n : ℕ) (s b₁ b₂ : List ℕ) → areaStart k ≤ dataEnd k → pduLength k ≤ length s → n ≡ dataEnd k
+    → b₁ ≡ sets s 0 (startBytes k start end) → b₂ ≡ crcAdded (k .crc) n b₁ → b₂ ≡ around k start end s
+unfolding around areaIn
+stored-around k start end n s b₁ b₂ before room pn e₁ e₂ =
+    let A = startBytes k start end in
+    let B = take (dataEnd k - areaStart k) (drop (areaStart k) s) in
+    let lA : length A ≡ areaStart k = start-length k start end in
+    let ends : dataEnd k + 2 * crcBit (k .crc) ≡ pduLength k = end-sum k in
+    let lB : length B ≡ dataEnd k - areaStart k = length-take-le (dataEnd k - areaStart k) (drop (areaStart k) s) (omega (arith, length-drop (areaStart k) s)) in
+    let p₁ : b₁ ≡ sets s 0 (A ++ B) = e₁ ∙ in-place A s (dataEnd k - areaStart k) (omega arith) ∙ ap (λ (j : ℕ). sets s 0 (A ++ take (dataEnd k - areaStart k) (drop j s))) lA in
+    sealed k start end n B s b₁ b₂ (omega arith) (omega arith) p₁ e₂
+
+-- ---- an accepted write, from what its calls left in the buffer
+
+pub nothing-written : (file : LargeFileFlag) (h : PduHeader) (start end : ℕ) (numbers s ns : List ℕ)
+    → told ns ≡ lengthInto (nakTests file h start end (length numbers)) (filled file (length numbers / 2) h) (length s)
+    → (told ns ≡ writingNak file h start end (length numbers) (length s)) × (s ≡ nakMemory file h start end numbers s)
+unfolding nakMemory writingNak
+nothing-written file h start end numbers s ns e =
+    let d = refused-into (nakTests file h start end (length numbers)) (filled file (length numbers / 2) h) (length s) ns e in
+    (d, told-leaves ns _ _ s d)
+
+-- bytes that were stored at a place stand there, and what lies behind them is as it was
+there : (at n : ℕ) (xs s : List ℕ) → length xs ≡ n → at + n ≤ length s → take n (drop at (sets s at xs)) ≡ xs
+there at n xs s l h =
+    let D = drop (at + length xs) s in
+    let t : length (take at s) ≡ at = length-take-le at s (omega arith) in
+    ap (λ (z : List ℕ). take n (drop at z)) (sets-eq xs s at (omega arith) ∙ append-assoc (take at s) xs D)
+    ∙ ap (take n) (drop-at (take at s) (xs ++ D) at t)
+    ∙ take-at xs D n l
+
+behind : (at m : ℕ) (xs s : List ℕ) → at + length xs ≤ m → at + length xs ≤ length s → drop m (sets s at xs) ≡ drop m s
+behind at m xs s h k =
+    let j = at + length xs in
+    let l : length (take at s ++ xs) ≡ j = length-append (take at s) xs ∙ ap (λ (x : ℕ). x + length xs) (length-take-le at s (omega arith)) in
+    let d : drop j (sets s at xs) ≡ drop j s = ap (drop j) (sets-eq xs s at k) ∙ drop-at (take at s ++ xs) (drop j s) j l in
+    let m-is : j + (m - j) ≡ m = omega arith in
+    ap (λ (i : ℕ). drop i (sets s at xs)) (sym m-is)
+    ∙ sym (drop-drop (m - j) j (sets s at xs))
+    ∙ ap (drop (m - j)) d
+    ∙ drop-drop (m - j) j s
+    ∙ ap (λ (i : ℕ). drop i s) m-is
+
+module _ (file : LargeFileFlag) (h : PduHeader) (start end : ℕ) (numbers s : List ℕ) (k : PduHeader)
+    (e : accepted (handed-back k) ≡ writingNak file h start end (length numbers) (length s)) where
+  -- the numbers, and then the NAK around them
+  pub nak-written : (w : NakWritten) (u n : ℕ) (b₁ b₂ : List ℕ) → u ≡ offsetWidth file → n ≡ areaStart k
+      → b₁ ≡ sets s n (numbersBytes u numbers) → w ≡ handed-back k → b₂ ≡ around k start end b₁
+      → (accepted w ≡ writingNak file h start end (length numbers) (length s)) × (b₂ ≡ nakMemory file h start end numbers s)
+  unfolding nakMemory nakBytes around areaIn nakOver
+  nak-written w u n b₁ b₂ pu pn e₁ q e₂ =
+      let z = to-write file h start end (length numbers) (length s) (handed-back k) e in
       let A = startBytes k start end in
       let B = numbersBytes (offsetWidth (k .file)) numbers in
-      let lA : length A ≡ n = start-length k start end ∙ sym pn in
-      let lB : length B ≡ u * length numbers = numbers-length _ numbers ∙ ap (λ (x : ℕ). x * length numbers) (sym pw) in
-      let fit : n + u * length numbers + 2 * crcBit (k .crc) ≤ length s = omega (arith, rw (← pu, ← pn) at (z .whole), z .room-is, z .length-is) in
-      let p₂ : b₂ ≡ sets s 0 (A ++ B) = then-sets A B s n lA e₁ (e₂ ∙ ap (λ (x : ℕ). sets b₁ n (numbersBytes x numbers)) pw) in
-      (e, sealed k start end (n + u * length numbers) B s b₂ b₃ (omega arith) fit p₂ e₃ ∙ ap (λ (o : Answer NakWritten). leaves o (λ (x : NakWritten). nakBytes (x .header) start end numbers) s) e)
+      let C = checksumBytes (k .crc) (A ++ B) in
+      let pw : u ≡ offsetWidth (k .file) = pu ∙ sym (ap offsetWidth (z .flag)) in
+      let p₁ : b₁ ≡ sets s (areaStart k) B = e₁ ∙ ap₂ (λ (i x : ℕ). sets s i (numbersBytes x numbers)) pn pw in
+      let size : length B ≡ offsetWidth file * length numbers = numbers-length _ numbers ∙ ap (λ (x : ℕ). x * length numbers) (ap offsetWidth (z .flag)) in
+      let lB : length B ≡ dataEnd k - areaStart k = omega (arith, area-before file h start end (length numbers) (length s) (handed-back k) z) in
+      let room : areaStart k + length B ≤ length s = omega (arith, numbers-room file h start end (length numbers) (length s) (handed-back k) z) in
+      let area : take (dataEnd k - areaStart k) (drop (areaStart k) b₁) ≡ B = ap (λ (x : List ℕ). take (dataEnd k - areaStart k) (drop (areaStart k) x)) p₁ ∙ there (areaStart k) (dataEnd k - areaStart k) B s lB (omega arith) in
+      let long : areaStart k + length B ≤ length ((A ++ B) ++ C) = omega (arith, length-append (A ++ B) C, length-append A B, start-length k start end) in
+      let rest : drop (length ((A ++ B) ++ C)) b₁ ≡ drop (length ((A ++ B) ++ C)) s = ap (drop (length ((A ++ B) ++ C))) p₁ ∙ behind (areaStart k) (length ((A ++ B) ++ C)) B s long room in
+      let bytes : List ℕ → List ℕ = λ x. (A ++ x) ++ checksumBytes (k .crc) (A ++ x) in (
+        ap accepted q ∙ e,
+        e₂
+            ∙ ap (λ (x : List ℕ). bytes x ++ drop (length (bytes x)) b₁) area
+            ∙ ap (λ (x : List ℕ). bytes B ++ x) rest
+            ∙ ap (λ (o : Answer NakWritten). leaves o (λ (x : NakWritten). nakOver (x .header) start end (numbersBytes (offsetWidth (x .header .file)) numbers)) s) e,
+      )
 
 -- with no list nothing stands between the scope and the checksum
-pub none-written : (file : LargeFileFlag) (h : PduHeader) (start end : ℕ) (s : List ℕ) (w : NakWritten) (n : ℕ) (b₁ b₃ : List ℕ) → accepted w ≡ writingNak file h start end 0 (length s)
-    → n ≡ areaStart (w .header) → b₁ ≡ sets s 0 (startBytes (w .header) start end) → b₃ ≡ crcAdded (w .header .crc) n b₁
-    → (accepted w ≡ writingNak file h start end 0 (length s)) × (b₃ ≡ nakMemory file h start end [] s)
+pub none-written : (file : LargeFileFlag) (h : PduHeader) (start end : ℕ) (s : List ℕ) (k : PduHeader) (w : NakWritten) (b : List ℕ) → accepted (handed-back k) ≡ writingNak file h start end 0 (length s)
+    → w ≡ handed-back k → b ≡ around k start end s
+    → (accepted w ≡ writingNak file h start end 0 (length s)) × (b ≡ nakMemory file h start end [] s)
 unfolding numbersBytes
-none-written file h start end s w n b₁ b₃ e pn e₁ e₃ =
-    let z : n ≡ n + offsetWidth file * 0 = omega arith in
-    nak-written file h start end [] s w e (offsetWidth file) n b₁ b₁ b₃ refl pn e₁ refl (e₃ ∙ ap (λ (j : ℕ). crcAdded (w .header .crc) j b₁) z)
+none-written file h start end s k w b e q p = nak-written file h start end [] s k e w (offsetWidth file) (areaStart k) s b refl refl refl q p

@@ -26,10 +26,6 @@ pairTests h n = directiveTests h ++ (tooMany (h .file) n ∷ [])
 abbrev pub keeping : PduHeader → ℕ → PduHeader
 keeping h n = filled (h .file) n h
 
--- the judgement but for scope and room
-unfoldable pub judgingPairs : PduHeader → ℕ → Answer PduHeader
-judgingPairs h n = firstOf (pairTests h n) (keeping h n)
-
 -- ---- reserving
 
 -- a header that was filled in for n pairs, their count, and the place of the request area
@@ -42,11 +38,13 @@ reserving h n room = firstOf (pairTests h n ++ (noRoom room (keeping h n) ∷ []
 
 -- ---- finishing: direction and length are worked out anew from the record's flags, widths and pair count
 
--- '3, 4, 14, 10, 9, 11'
+-- '3, 4, 14, 10, 9'
+unfoldable pub finishTests : PduHeader → ℕ → ℕ → ℕ → List Test
+finishTests h n start end = pairTests h n ++ (scopeTooLarge (h .file) start end ∷ [])
+
+-- then '11'
 unfoldable pub finishing : ReservedNak → ℕ → ℕ → ℕ → Answer NakWritten
-finishing r start end room =
-    let h = r .header in
-    intoRoom (pairTests h (r .count) ++ (scopeTooLarge (h .file) start end ∷ [])) (keeping h (r .count)) room
+finishing r start end room = intoRoom (finishTests (r .header) (r .count) start end) (keeping (r .header) (r .count)) room
 
 -- the request bytes as the caller filled them
 unfoldable pub areaIn : PduHeader → List ℕ → List ℕ

@@ -1,28 +1,27 @@
 -- What private functions promise each other, by the definitions of the other files. No public promise cites this file.
-use Prim.Native.Nat.{ℕ, _/_}
+use Prim.Native.Nat.{ℕ}
+use mathlib.Core.Bool.{Bool, _&&_}
 use mathlib.Core.List.{List, [], _∷_, _++_}
-use Rattle.fields.specs.Answer.{Answer, accepted, told, andThen, firstOf}
-use Rattle.fields.specs.Staged.{run}
-use Rattle.fields.specs.Refusal.{paper}
+use lib.ListN.{length, drop}
+use Rattle.fields.specs.Answer.{Answer, accepted, andThen, Test, firstOf}
 use Rattle.header.specs.declared.PduHeader.{PduHeader}
 use Rattle.header.specs.declared.flags.LargeFileFlag.{LargeFileFlag}
 use Rattle.header.specs.Header.{pduLength}
-use Rattle.nak.specs.declared.compare.Likeness.{Likeness}
-use Rattle.nak.specs.declared.compare.LikenessResult.{LikenessResult}
-use Rattle.nak.specs.declared.compare.LikenessResult.the-variants.{Likeness as Alike, Refused}
-use Rattle.nak.specs.Reading.{readingNak}
-use Rattle.nak.specs.Writing.{filled, noRoom, nakTests, judgingNak}
+use Rattle.nak.specs.declared.Nak.{Nak}
+use Rattle.nak.specs.Writing.{nakOver, noRoom, judgingNak}
+use Rattle.nak.specs.Reserving.{areaIn}
 use Rattle.nak.specs.Comparing.{sameNak}
 
--- a write's answer, and of what is accepted only the written length
-unfoldable pub writingLength : LargeFileFlag → PduHeader → ℕ → ℕ → ℕ → ℕ → Answer ℕ
-writingLength file h start end count room = firstOf (nakTests file h start end count ++ (noRoom room (filled file (count / 2) h) ∷ [])) (pduLength (filled file (count / 2) h))
+-- those tests, then 11, as in `intoRoom`; of what is accepted only the written length
+unfoldable pub lengthInto : List Test → PduHeader → ℕ → Answer ℕ
+lengthInto ts h room = firstOf (ts ++ (noRoom room h ∷ [])) (pduLength h)
 
--- comparing, up to the list: the NAK that was read, and whether header and scope are those handed back
-unfoldable pub likening : LargeFileFlag → PduHeader → ℕ → ℕ → ℕ → List ℕ → Answer Likeness
-likening file h start end count s =
-    andThen (run readingNak s) (λ n. andThen (judgingNak file h start end count) (λ w. accepted (record { nak = n; same = sameNak n w start end })))
+-- a buffer in which the requests stand, with the NAK around them
+unfoldable pub around : PduHeader → ℕ → ℕ → List ℕ → List ℕ
+around h start end s =
+    let bytes = nakOver h start end (areaIn h s) in
+    bytes ++ drop (length bytes) s
 
-abbrev pub likenessAnswer : LikenessResult → Answer Likeness
-likenessAnswer (Alike l) = accepted l
-likenessAnswer (Refused r) = told (paper r)
+-- comparing, of a NAK that was read; `held` is whether its area is exactly the numbers
+unfoldable pub comparingRead : LargeFileFlag → PduHeader → ℕ → ℕ → ℕ → Nak → Bool → Answer Bool
+comparingRead file h start end count n held = andThen (judgingNak file h start end count) (λ w. accepted (sameNak n w start end && held))

@@ -4,13 +4,13 @@ ghost use mathlib.Core.List.{[]};
 ghost use lib.ListN.{length};
 ghost use Rattle.fields.specs.Answer.{accepted};
 ghost use Rattle.nak.specs.Comparing.{compareAnswer, sameNak, holdsNumbers, comparing};
-ghost use Rattle.nak.specs.Within.{likenessAnswer, likening};
+ghost use Rattle.nak.specs.Within.{comparingRead};
 use crate::Nak;
 use crate::NakResult;
+use crate::count::CountResult;
 use crate::write;
 use fields::Refusal;
 use fields::be;
-use header::HeaderResult;
 use header::LargeFileFlag;
 use header::PduHeader;
 
@@ -18,18 +18,6 @@ use header::PduHeader;
 pub enum CompareResult {
     Equal,
     Different,
-    Refused(Refusal),
-}
-
-// A NAK that was read, and whether its header and scope are those to be written.
-struct Likeness {
-    pub nak: Nak,
-    pub same: bool,
-}
-
-// A likeness, or why there is none.
-enum LikenessResult {
-    Likeness(Likeness),
     Refused(Refusal),
 }
 
@@ -43,33 +31,6 @@ fn same_nak(nak: Nak, header: PduHeader, start: u64, end: u64) -> bool
         return false;
     }
     nak.end == end
-}
-
-// What does not look at the list, so that the three functions below share it.
-fn liken(
-    buf: &[u8],
-    header: PduHeader,
-    file: LargeFileFlag,
-    start: u64,
-    end: u64,
-    count: usize,
-) -> LikenessResult
-    ensures { λ r. ⌜ likenessAnswer r ≡ likening file header start end count (now (buf .entry)) ⌝ }
-{
-    let read = Nak::from_bytes(buf);
-    match read {
-        NakResult::Refused(refusal) => LikenessResult::Refused(refusal),
-        NakResult::Nak(nak) => {
-            let judged = write::judge_nak(header, file, start, end, count);
-            match judged {
-                HeaderResult::Refused(refusal) => LikenessResult::Refused(refusal),
-                HeaderResult::Header(header) => {
-                    let same = same_nak(nak, header, start, end);
-                    LikenessResult::Likeness(Likeness { nak, same })
-                }
-            }
-        }
-    }
 }
 
 fn holds_normal(area: &[u8], numbers: &[u32]) -> bool
@@ -117,6 +78,30 @@ fn verdict(same: bool) -> CompareResult
     CompareResult::Different
 }
 
+// A NAK that was read, beside one to be written; `held` is whether its request area is exactly the list.
+fn compare_read(
+    nak: Nak,
+    header: PduHeader,
+    file: LargeFileFlag,
+    start: u64,
+    end: u64,
+    count: usize,
+    held: bool,
+) -> CompareResult
+    ensures { λ r. ⌜ compareAnswer r ≡ comparingRead file header start end count nak held ⌝ }
+{
+    let judged = write::judge_count(header, file, start, end, count);
+    match judged {
+        CountResult::Refused(refusal) => CompareResult::Refused(refusal),
+        CountResult::Count(pairs) => {
+            if !same_nak(nak, write::fill(header, file, pairs), start, end) {
+                return CompareResult::Different;
+            }
+            verdict(held)
+        }
+    }
+}
+
 // No list: the header's file flag stands, and no byte may follow the scope.
 pub fn compare_no_segment_requests(
     buf: &[u8],
@@ -126,15 +111,13 @@ pub fn compare_no_segment_requests(
 ) -> CompareResult
     ensures { λ r. ⌜ compareAnswer r ≡ comparing (header .file) header start end [] (now (buf .entry)) ⌝ }
 {
-    let file = header.file;
-    let likeness = liken(buf, header, file, start, end, 0);
-    match likeness {
-        LikenessResult::Refused(refusal) => CompareResult::Refused(refusal),
-        LikenessResult::Likeness(likeness) => {
-            if !likeness.same {
-                return CompareResult::Different;
-            }
-            verdict(likeness.nak.request_area(buf).len() == 0)
+    let read = Nak::from_bytes(buf);
+    match read {
+        NakResult::Refused(refusal) => CompareResult::Refused(refusal),
+        NakResult::Nak(nak) => {
+            let file = header.file;
+            let held = nak.request_area(buf).len() == 0;
+            compare_read(nak, header, file, start, end, 0, held)
         }
     }
 }
@@ -148,21 +131,13 @@ pub fn compare_normal_file_size(
 ) -> CompareResult
     ensures { λ r. ⌜ compareAnswer r ≡ comparing LargeFileFlag.Normal header start end (now (numbers .entry)) (now (buf .entry)) ⌝ }
 {
-    let likeness = liken(
-        buf,
-        header,
-        LargeFileFlag::Normal,
-        start,
-        end,
-        numbers.len(),
-    );
-    match likeness {
-        LikenessResult::Refused(refusal) => CompareResult::Refused(refusal),
-        LikenessResult::Likeness(likeness) => {
-            if !likeness.same {
-                return CompareResult::Different;
-            }
-            verdict(holds_normal(likeness.nak.request_area(buf), numbers))
+    let read = Nak::from_bytes(buf);
+    match read {
+        NakResult::Refused(refusal) => CompareResult::Refused(refusal),
+        NakResult::Nak(nak) => {
+            let count = numbers.len();
+            let held = holds_normal(nak.request_area(buf), numbers);
+            compare_read(nak, header, LargeFileFlag::Normal, start, end, count, held)
         }
     }
 }
@@ -176,14 +151,13 @@ pub fn compare_large_file_size(
 ) -> CompareResult
     ensures { λ r. ⌜ compareAnswer r ≡ comparing LargeFileFlag.Large header start end (now (numbers .entry)) (now (buf .entry)) ⌝ }
 {
-    let likeness = liken(buf, header, LargeFileFlag::Large, start, end, numbers.len());
-    match likeness {
-        LikenessResult::Refused(refusal) => CompareResult::Refused(refusal),
-        LikenessResult::Likeness(likeness) => {
-            if !likeness.same {
-                return CompareResult::Different;
-            }
-            verdict(holds_large(likeness.nak.request_area(buf), numbers))
+    let read = Nak::from_bytes(buf);
+    match read {
+        NakResult::Refused(refusal) => CompareResult::Refused(refusal),
+        NakResult::Nak(nak) => {
+            let count = numbers.len();
+            let held = holds_large(nak.request_area(buf), numbers);
+            compare_read(nak, header, LargeFileFlag::Large, start, end, count, held)
         }
     }
 }

@@ -1,10 +1,12 @@
 // How many requests a NAK has at most in a packet of a given size (the Rust's `calculate_max_segment_requests`).
 ghost use mathlib.Core.Path.{_≡_};
-ghost use Rattle.nak.specs.Counting.{countAnswer, mostRequests};
+ghost use Prim.Native.Nat.{_≤_};
+ghost use Rattle.nak.specs.Counting.{countAnswer, leastPacket, mostRequests};
+use crate::area_start;
 use crate::offset_width;
 use crate::write;
 use fields::Refusal;
-use header::HeaderResult;
+use header::LengthResult;
 use header::PduHeader;
 
 // A count of requests, or why there is none.
@@ -13,21 +15,27 @@ pub enum CountResult {
     Refused(Refusal),
 }
 
+// A NAK with no request.
+fn least_packet(header: PduHeader) -> usize
+    ensures { λ r. ⌜ (r ≡ leastPacket header) × (r ≤ 788) ⌝ }
+{
+    let crc = header.crc;
+    area_start(header) + 2 * (crc.bit() as usize)
+}
+
 pub fn calculate_max_segment_requests(size: usize, header: PduHeader) -> CountResult
     ensures { λ r. ⌜ countAnswer r ≡ mostRequests header size ⌝ }
 {
     let judged = header.judged_directive();
     match judged {
-        HeaderResult::Refused(refusal) => CountResult::Refused(refusal),
-        HeaderResult::Header(_) => {
-            let file = header.file;
-            let crc = header.crc;
-            let pair = 2 * offset_width(file);
-            let least = header.header_len() + 1 + pair + 2 * (crc.bit() as usize);
+        LengthResult::Refused(refusal) => CountResult::Refused(refusal),
+        LengthResult::Length(_) => {
+            let least = least_packet(header);
             if size < least {
                 return CountResult::Refused(Refusal::TooSmallForPduHeader);
             }
-            let by_size = (size - least) / pair;
+            let file = header.file;
+            let by_size = (size - least) / (2 * offset_width(file));
             // The Rust stops here, and its count may be one that no writer takes.
             let most = write::most_pairs(file);
             if most < by_size {

@@ -3,7 +3,7 @@ ghost use mathlib.Core.Path.{_≡_};
 ghost use Prim.Native.Nat.{_+_, _≤_};
 ghost use lib.ListN.{length};
 ghost use Rattle.fields.specs.BigEndian.{numberAt};
-ghost use Rattle.nak.specs.Nak.{offsetWidth};
+ghost use Rattle.nak.specs.Nak.{offsetWidth, areaStart};
 use fields::Refusal;
 use fields::be;
 use header::LargeFileFlag;
@@ -46,6 +46,14 @@ fn offset_width(file: LargeFileFlag) -> usize
         LargeFileFlag::Normal => 4,
         LargeFileFlag::Large => 8,
     }
+}
+
+// h + 1 + F: where the request area starts.
+fn area_start(header: PduHeader) -> usize
+    ensures { λ r. ⌜ (r ≡ areaStart header) × (r ≤ 786) ⌝ }
+{
+    let file = header.file;
+    header.header_len() + 1 + 2 * offset_width(file)
 }
 
 // The offset at a place that has all its bytes. Each width is a literal, and each part has so many bytes: no test and no loop is left of

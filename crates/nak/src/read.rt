@@ -8,6 +8,7 @@ ghost use Rattle.nak.specs.Nak.{areaStart, nakIn};
 ghost use Rattle.nak.specs.Reading.{nakAnswer, readingScope, readingDirective, readingData, readingNak};
 use crate::Nak;
 use crate::NakResult;
+use crate::area_start;
 use crate::directive::Directive;
 use crate::offset_at;
 use crate::offset_width;
@@ -44,8 +45,7 @@ fn read_scope(header: PduHeader, pdu: &[u8], end: usize) -> NakResult
     requires { ⌜ (end ≡ dataEnd header) × (dataEnd header ≤ length (now pdu)) ⌝ }
     ensures { λ r. ⌜ nakAnswer r ≡ run (readingScope header (now (pdu .entry))) (now (pdu .entry)) ⌝ }
 {
-    let file = header.file;
-    let area = header.header_len() + 1 + 2 * offset_width(file);
+    let area = area_start(header);
     if end < area {
         return NakResult::Refused(Refusal::DataFieldTooSmall {
             end,

@@ -1,19 +1,21 @@
 // Reserving room for requests that the caller fills in, and finishing the NAK around them (the Rust's `NakPduCreatorWithReservedSeqReqsBuf`).
 ghost use mathlib.Core.Path.{_≡_};
+ghost use Prim.Native.Nat.{_≤_};
 ghost use lib.ListN.{length};
-ghost use Rattle.header.specs.Answers.{headerAnswer};
-ghost use Rattle.header.specs.Header.{dataEnd};
-ghost use Rattle.nak.specs.Writing.{writeAnswer};
-ghost use Rattle.nak.specs.Reserving.{reserveAnswer, judgingPairs, placed, reserving, finishing, finishedMemory};
-use crate::offset_width;
+ghost use Rattle.fields.specs.Answer.{firstOf};
+ghost use Rattle.header.specs.Answers.{lengthAnswer};
+ghost use Rattle.nak.specs.Writing.{writeAnswer, mostPairs};
+ghost use Rattle.nak.specs.Counting.{countAnswer};
+ghost use Rattle.nak.specs.Reserving.{reserveAnswer, pairTests, keeping, placed, reserving, finishTests, finishing, finishedMemory};
+ghost use Rattle.nak.specs.Within.{lengthInto};
+use crate::area_start;
+use crate::count::CountResult;
 use crate::write;
 use crate::write::NakWritten;
 use crate::write::WriteResult;
 use fields::Refusal;
-use header::HeaderResult;
 use header::LengthResult;
 use header::PduHeader;
-use header::verify;
 
 // The header that was reserved for, the pairs, and where their bytes start and stop in the buffer.
 pub struct ReservedNak {
@@ -29,66 +31,67 @@ pub enum ReserveResult {
     Refused(Refusal),
 }
 
-// The judgement but for scope and room: the header that is handed back, its file flag kept.
-fn judge_pairs(header: PduHeader, count: usize) -> HeaderResult
-    ensures { λ r. ⌜ headerAnswer r ≡ judgingPairs header count ⌝ }
+// The judgement but for scope and room: the pairs. No header is handed back: it is long.
+fn judge_pairs(header: PduHeader, count: usize) -> CountResult
+    ensures { λ r. ⌜ countAnswer r ≡ firstOf (pairTests header count) count ⌝ }
 {
     let judged = header.judged_directive();
     match judged {
-        HeaderResult::Refused(refusal) => HeaderResult::Refused(refusal),
-        HeaderResult::Header(_) => {
+        LengthResult::Refused(refusal) => CountResult::Refused(refusal),
+        LengthResult::Length(_) => {
             let file = header.file;
             let most = write::most_pairs(file);
             if most < count {
-                return HeaderResult::Refused(Refusal::TooManySegmentRequests {
-                    found: count,
-                    most,
-                });
+                return CountResult::Refused(Refusal::TooManySegmentRequests { found: count, most });
             }
-            HeaderResult::Header(write::fill(header, file, count))
+            CountResult::Count(count)
         }
     }
 }
 
-// Where the data of a PDU ends: a checksum is no data.
-fn data_end(header: PduHeader) -> usize
-    ensures { λ r. ⌜ r ≡ dataEnd header ⌝ }
+// Direction and length are filled in, the file flag is kept.
+fn keep(header: PduHeader, count: usize) -> PduHeader
+    requires { ⌜ count ≤ mostPairs (header .file) ⌝ }
+    ensures { λ r. ⌜ r ≡ keeping header count ⌝ }
 {
-    let crc = header.crc;
-    let sum = 2 * (crc.bit() as usize);
-    header.pdu_len() - sum
+    let file = header.file;
+    write::fill(header, file, count)
 }
 
 // Behind the scope lies room for the requests, up to the end of the data.
 fn place(header: PduHeader, count: usize) -> ReservedNak
     ensures { λ r. ⌜ r ≡ placed header count ⌝ }
 {
-    let file = header.file;
-    let area = header.header_len() + 1 + 2 * offset_width(file);
     ReservedNak {
         header,
         count,
-        area,
-        stop: data_end(header),
+        area: area_start(header),
+        stop: write::data_end(header),
     }
 }
 
-fn finishable(reserved: ReservedNak, start: u64, end: u64, room: usize) -> WriteResult
-    ensures { λ r. ⌜ writeAnswer r ≡ finishing reserved start end room ⌝ }
+fn reservable(header: PduHeader, count: usize, room: usize) -> LengthResult
+    ensures { λ r. ⌜ lengthAnswer r ≡ lengthInto (pairTests header count) (keeping header count) room ⌝ }
 {
-    let judged = judge_pairs(reserved.header, reserved.count);
+    let judged = judge_pairs(header, count);
     match judged {
-        HeaderResult::Refused(refusal) => WriteResult::Refused(refusal),
-        HeaderResult::Header(header) => {
+        CountResult::Refused(refusal) => LengthResult::Refused(refusal),
+        CountResult::Count(pairs) => write::with_room(keep(header, pairs), room),
+    }
+}
+
+fn finishable(header: PduHeader, count: usize, start: u64, end: u64, room: usize) -> LengthResult
+    ensures { λ r. ⌜ lengthAnswer r ≡ lengthInto (finishTests header count start end) (keeping header count) room ⌝ }
+{
+    let answer = judge_pairs(header, count);
+    match answer {
+        CountResult::Refused(refusal) => LengthResult::Refused(refusal),
+        CountResult::Count(pairs) => {
             let file = header.file;
             if !write::scope_fits(file, start, end) {
-                return WriteResult::Refused(Refusal::InvalidStartOrEndOfScope { start, end });
+                return LengthResult::Refused(Refusal::InvalidStartOrEndOfScope { start, end });
             }
-            let answer = write::with_room(header, room);
-            match answer {
-                LengthResult::Refused(refusal) => WriteResult::Refused(refusal),
-                LengthResult::Length(length) => WriteResult::Written(NakWritten { header, length }),
-            }
+            write::with_room(keep(header, pairs), room)
         }
     }
 }
@@ -98,16 +101,10 @@ impl ReservedNak {
     pub fn new(header: PduHeader, count: usize, buf: &[u8]) -> ReserveResult
         ensures { λ r. ⌜ reserveAnswer r ≡ reserving header count (length (now (buf .entry))) ⌝ }
     {
-        let judged = judge_pairs(header, count);
-        match judged {
-            HeaderResult::Refused(refusal) => ReserveResult::Refused(refusal),
-            HeaderResult::Header(header) => {
-                let room = write::with_room(header, buf.len());
-                match room {
-                    LengthResult::Refused(refusal) => ReserveResult::Refused(refusal),
-                    LengthResult::Length(_) => ReserveResult::Reserved(place(header, count)),
-                }
-            }
+        let answer = reservable(header, count, buf.len());
+        match answer {
+            LengthResult::Refused(refusal) => ReserveResult::Refused(refusal),
+            LengthResult::Length(_) => ReserveResult::Reserved(place(keep(header, count), count)),
         }
     }
 
@@ -116,16 +113,14 @@ impl ReservedNak {
         ensures answered { λ r. ⌜ writeAnswer r ≡ finishing self start end (length (now (buf .entry))) ⌝ }
         ensures stored { λ _. ⌜ now (buf .exit) ≡ finishedMemory self start end (now (buf .entry)) ⌝ }
     {
-        let answer = finishable(self, start, end, buf.len());
+        let given = self.header;
+        let count = self.count;
+        let answer = finishable(given, count, start, end, buf.len());
         match answer {
-            WriteResult::Refused(refusal) => WriteResult::Refused(refusal),
-            WriteResult::Written(written) => {
-                let header = written.header;
-                let crc = header.crc;
-                let stop = data_end(header);
-                write::put_start(buf, header, start, end);
-                verify::add_pdu_crc(buf, stop, crc);
-                WriteResult::Written(written)
+            LengthResult::Refused(refusal) => WriteResult::Refused(refusal),
+            LengthResult::Length(_) => {
+                let header = keep(given, count);
+                WriteResult::Written(write::put_around(buf, header, start, end))
             }
         }
     }

@@ -7,20 +7,20 @@ ghost use lib.ListN.{length, getD};
 ghost use lib.Seq.{sets};
 ghost use Rattle.fields.proofs.Judging.{Passed};
 ghost use Rattle.fields.specs.Answer.{firstOf};
-ghost use Rattle.header.specs.Answers.{headerAnswer, lengthAnswer};
-ghost use Rattle.header.specs.Header.{pduLength};
+ghost use Rattle.header.specs.Answers.{lengthAnswer};
+ghost use Rattle.header.specs.Header.{pduLength, dataEnd};
 ghost use Rattle.header.specs.Judging.{recordTests};
 ghost use Rattle.nak.specs.Nak.{offsetWidth, areaStart};
 ghost use Rattle.nak.specs.Counting.{countAnswer};
-ghost use Rattle.nak.specs.Writing.{writeAnswer, numbersBytes, startBytes, dataLength, mostPairs, filled, scopeFits, nakTests, noRoom, judgingNak, writingNak, nakMemory};
-ghost use Rattle.nak.specs.Within.{writingLength};
+ghost use Rattle.nak.specs.Writing.{writeAnswer, numbersBytes, startBytes, dataLength, mostPairs, filled, scopeFits, nakTests, noRoom, writingNak, nakMemory};
+ghost use Rattle.nak.specs.Within.{lengthInto, around};
+use crate::area_start;
 use crate::count::CountResult;
 use crate::offset_width;
 use fields::Refusal;
 use fields::be;
 use header::CrcFlag;
 use header::Direction;
-use header::HeaderResult;
 use header::LargeFileFlag;
 use header::LengthResult;
 use header::PduHeader;
@@ -87,7 +87,7 @@ pub(crate) fn fill(header: PduHeader, file: LargeFileFlag, pairs: usize) -> PduH
 
 // The writer's judgement but for the room, and how many pairs the numbers are. No header is handed back: it is long, and this function is
 // too long to become a part of its callers.
-fn judge_count(
+pub(crate) fn judge_count(
     header: PduHeader,
     file: LargeFileFlag,
     start: u64,
@@ -98,8 +98,8 @@ fn judge_count(
 {
     let judged = header.judged_directive();
     match judged {
-        HeaderResult::Refused(refusal) => CountResult::Refused(refusal),
-        HeaderResult::Header(_) => {
+        LengthResult::Refused(refusal) => CountResult::Refused(refusal),
+        LengthResult::Length(_) => {
             if count % 2 != 0 {
                 return CountResult::Refused(Refusal::OddCount(count));
             }
@@ -113,23 +113,6 @@ fn judge_count(
             }
             CountResult::Count(pairs)
         }
-    }
-}
-
-// The same judgement: the header that is handed back.
-pub(crate) fn judge_nak(
-    header: PduHeader,
-    file: LargeFileFlag,
-    start: u64,
-    end: u64,
-    count: usize,
-) -> HeaderResult
-    ensures { λ r. ⌜ headerAnswer r ≡ judgingNak file header start end count ⌝ }
-{
-    let judged = judge_count(header, file, start, end, count);
-    match judged {
-        CountResult::Refused(refusal) => HeaderResult::Refused(refusal),
-        CountResult::Count(pairs) => HeaderResult::Header(fill(header, file, pairs)),
     }
 }
 
@@ -156,7 +139,7 @@ fn writable(
     count: usize,
     room: usize,
 ) -> LengthResult
-    ensures { λ r. ⌜ lengthAnswer r ≡ writingLength file header start end count room ⌝ }
+    ensures { λ r. ⌜ lengthAnswer r ≡ lengthInto (nakTests file header start end count) (filled file (count / 2) header) room ⌝ }
 {
     let judged = judge_count(header, file, start, end, count);
     match judged {
@@ -165,10 +148,10 @@ fn writable(
     }
 }
 
-// Header, directive and scope, at the front of the buffer; where the requests start.
-pub(crate) fn put_start(buf: &mut [u8], header: PduHeader, start: u64, end: u64) -> usize
+// Header, directive and scope, at the front of the buffer.
+fn put_start(buf: &mut [u8], header: PduHeader, start: u64, end: u64)
     requires { ⌜ Passed (recordTests header) × (areaStart header ≤ length (now buf)) × (scopeFits (header .file) start end ≡ true) ⌝ }
-    ensures { λ r. ⌜ (r ≡ areaStart header) × (now (buf .exit) ≡ sets (now (buf .entry)) 0 (startBytes header start end)) × (length (now (buf .exit)) ≡ length (now (buf .entry))) ⌝ }
+    ensures { λ _. ⌜ now (buf .exit) ≡ sets (now (buf .entry)) 0 (startBytes header start end) ⌝ }
 {
     let at = header.header_len();
     let file = header.file;
@@ -179,7 +162,29 @@ pub(crate) fn put_start(buf: &mut [u8], header: PduHeader, start: u64, end: u64)
     be::write_be(buf, at, 1, NAK_CODE);
     be::write_be(buf, first, width, start);
     be::write_be(buf, second, width, end);
-    second + width
+}
+
+// Where the data of a PDU ends: a checksum is no data.
+pub(crate) fn data_end(header: PduHeader) -> usize
+    ensures { λ r. ⌜ r ≡ dataEnd header ⌝ }
+{
+    let crc = header.crc;
+    let sum = 2 * (crc.bit() as usize);
+    header.pdu_len() - sum
+}
+
+// The NAK around its requests, which stand in the buffer already: what comes before them, and with the flag the checksum behind.
+pub(crate) fn put_around(buf: &mut [u8], header: PduHeader, start: u64, end: u64) -> NakWritten
+    requires { ⌜ Passed (recordTests header) × (areaStart header ≤ dataEnd header) × (pduLength header ≤ length (now buf)) × (scopeFits (header .file) start end ≡ true) ⌝ }
+    ensures { λ r. ⌜ (r ≡ record { header = header; length = pduLength header }) × (now (buf .exit) ≡ around header start end (now (buf .entry))) ⌝ }
+{
+    let crc = header.crc;
+    put_start(buf, header, start, end);
+    verify::add_pdu_crc(buf, data_end(header), crc);
+    NakWritten {
+        header,
+        length: header.pdu_len(),
+    }
 }
 
 // The number at i, and above it the next: so they stand in the memory of a little-endian machine.
@@ -203,7 +208,7 @@ fn exchanged(two: u64) -> u64
 // compiler makes one load, one exchange and one store of it; put together at once it is taken apart into bytes again.
 fn put_normal(buf: &mut [u8], at: usize, numbers: &[u32])
     requires { ⌜ (at + 4 * length (now numbers) ≤ length (now buf)) × (length (now numbers) ≡ 2 * (length (now numbers) / 2)) ⌝ }
-    ensures { λ _. ⌜ now (buf .exit) ≡ sets (now (buf .entry)) at (numbersBytes 4 (now (numbers .entry))) ⌝ }
+    ensures { λ _. ⌜ (now (buf .exit) ≡ sets (now (buf .entry)) at (numbersBytes 4 (now (numbers .entry)))) × (length (now (buf .exit)) ≡ length (now (buf .entry))) ⌝ }
 {
     let pairs = numbers.len() / 2;
     let mut i = 0;
@@ -219,7 +224,7 @@ fn put_normal(buf: &mut [u8], at: usize, numbers: &[u32])
 // Large numbers, one behind the other from `at`.
 fn put_large(buf: &mut [u8], at: usize, numbers: &[u64])
     requires { ⌜ at + 8 * length (now numbers) ≤ length (now buf) ⌝ }
-    ensures { λ _. ⌜ now (buf .exit) ≡ sets (now (buf .entry)) at (numbersBytes 8 (now (numbers .entry))) ⌝ }
+    ensures { λ _. ⌜ (now (buf .exit) ≡ sets (now (buf .entry)) at (numbersBytes 8 (now (numbers .entry)))) × (length (now (buf .exit)) ≡ length (now (buf .entry))) ⌝ }
 {
     let mut i = 0;
     while i < numbers.len() {
@@ -244,12 +249,9 @@ pub fn write_no_segment_requests(
     let answer = writable(header, file, start, end, 0, buf.len());
     match answer {
         LengthResult::Refused(refusal) => WriteResult::Refused(refusal),
-        LengthResult::Length(length) => {
+        LengthResult::Length(_) => {
             let header = fill(header, file, 0);
-            let crc = header.crc;
-            let at = put_start(buf, header, start, end);
-            verify::add_pdu_crc(buf, at, crc);
-            WriteResult::Written(NakWritten { header, length })
+            WriteResult::Written(put_around(buf, header, start, end))
         }
     }
 }
@@ -269,13 +271,10 @@ pub fn write_normal_file_size(
     let answer = writable(header, LargeFileFlag::Normal, start, end, count, buf.len());
     match answer {
         LengthResult::Refused(refusal) => WriteResult::Refused(refusal),
-        LengthResult::Length(length) => {
+        LengthResult::Length(_) => {
             let header = fill(header, LargeFileFlag::Normal, count / 2);
-            let crc = header.crc;
-            let at = put_start(buf, header, start, end);
-            put_normal(buf, at, numbers);
-            verify::add_pdu_crc(buf, at + 4 * count, crc);
-            WriteResult::Written(NakWritten { header, length })
+            put_normal(buf, area_start(header), numbers);
+            WriteResult::Written(put_around(buf, header, start, end))
         }
     }
 }
@@ -295,13 +294,10 @@ pub fn write_large_file_size(
     let answer = writable(header, LargeFileFlag::Large, start, end, count, buf.len());
     match answer {
         LengthResult::Refused(refusal) => WriteResult::Refused(refusal),
-        LengthResult::Length(length) => {
+        LengthResult::Length(_) => {
             let header = fill(header, LargeFileFlag::Large, count / 2);
-            let crc = header.crc;
-            let at = put_start(buf, header, start, end);
-            put_large(buf, at, numbers);
-            verify::add_pdu_crc(buf, at + 8 * count, crc);
-            WriteResult::Written(NakWritten { header, length })
+            put_large(buf, area_start(header), numbers);
+            WriteResult::Written(put_around(buf, header, start, end))
         }
     }
 }

@@ -26,11 +26,14 @@ returns c = not-directive _ (passed-tests _ _ (ap headerAnswer (sym (c .before .
 enum-told-3 : tie.Need-enum-told-3
 enum-told-3 c = search needs
 
+header-len-requires : tie.Need-header-len-requires
+header-len-requires c κs = search needs
+
 returns-2 : tie.Need-returns-2
 returns-2 c = refused-record _ _ (ap headerAnswer (sym (c .before .judged2 .given .1)) ∙ c .before .before .before .judged .ensures)
 
 returns-3 : tie.Need-returns-3
-returns-3 c = a-directive _ (passed-tests _ _ (ap headerAnswer (sym (c .before .before .enum-told .given .1)) ∙ c .before .before .before .before .judged .ensures)) (c .enum-told3 .given .1)
+returns-3 c = a-directive _ (passed-tests _ _ (ap headerAnswer (sym (c .before .before .before .enum-told .given .1)) ∙ c .before .before .before .before .before .judged .ensures)) _ (c .header-len .ensures .0) (c .before .enum-told3 .given .1)
 
 pub judged-directive-spec : {M : Type 1} → statement M
 judged-directive-spec =
@@ -42,5 +45,6 @@ judged-directive-spec =
     enum-told-2
     returns
     enum-told-3
+    header-len-requires
     returns-2
     returns-3)

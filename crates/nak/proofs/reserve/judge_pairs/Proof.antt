@@ -1,8 +1,7 @@
 -- `nak::reserve::judge_pairs` meets its contract: each exit's answer is the judgement's.
 -- Assumes nothing.
 use mathlib.Core.Path.{sym, ap, _∙_}
-use Rattle.fields.specs.Answer.{accepted}
-use Rattle.header.specs.Answers.{headerAnswer}
+use Rattle.header.specs.Answers.{lengthAnswer}
 use Rattle.header.proofs.Directives.{passed-directive}
 use Rattle.nak.proofs.Reserving.{refused-pairs, many-pairs, judged-pairs}
 use borrow.Author.Needs.{needs}
@@ -22,16 +21,13 @@ most-pairs-requires : tie.Need-most-pairs-requires
 most-pairs-requires c κs = search needs
 
 returns : tie.Need-returns
-returns c = many-pairs _ _ (passed-directive _ _ (ap headerAnswer (sym (c .before .before .enum-told .given .1)) ∙ c .before .before .before .before .judged-directive .ensures)) _ (c .before .most-pairs .ensures) (c .if1 .taken)
-
-fill-requires : tie.Need-fill-requires
-fill-requires c κs = search needs
+returns c = many-pairs _ _ (passed-directive _ _ (ap lengthAnswer (sym (c .before .before .enum-told .given .1)) ∙ c .before .before .before .before .judged-directive .ensures)) _ (c .before .most-pairs .ensures) (c .if1 .taken)
 
 returns-2 : tie.Need-returns-2
-returns-2 c = refused-pairs _ _ _ (ap headerAnswer (sym (c .before .judged .given .1)) ∙ c .before .before .before .judged-directive .ensures)
+returns-2 c = refused-pairs _ _ _ (ap lengthAnswer (sym (c .before .judged .given .1)) ∙ c .before .before .before .judged-directive .ensures)
 
 returns-3 : tie.Need-returns-3
-returns-3 c = ap accepted (c .fill .ensures) ∙ judged-pairs _ _ (passed-directive _ _ (ap headerAnswer (sym (c .before .before .before .enum-told .given .1)) ∙ c .before .before .before .before .before .judged-directive .ensures)) _ (c .before .before .most-pairs .ensures) (c .before .if1 .left)
+returns-3 c = judged-pairs _ _ (passed-directive _ _ (ap lengthAnswer (sym (c .before .before .enum-told .given .1)) ∙ c .before .before .before .before .judged-directive .ensures)) _ (c .before .most-pairs .ensures) (c .if1 .left)
 
 pub judge-pairs-spec : {M : Type 1} → statement M
 judge-pairs-spec =
@@ -42,6 +38,5 @@ judge-pairs-spec =
     enum-told
     most-pairs-requires
     returns
-    fill-requires
     returns-2
     returns-3)

@@ -2,7 +2,7 @@
 -- Assumes nothing.
 use mathlib.Core.Path.{sym, ap, _∙_}
 use borrow.Author.Tests.{not-true, not-false}
-use Rattle.header.specs.Answers.{headerAnswer}
+use Rattle.header.specs.Answers.{lengthAnswer}
 use Rattle.header.proofs.Directives.{passed-directive}
 use Rattle.nak.proofs.Writing.{refused-nak, odd, bad-scope, too-many, none-holds}
 use borrow.Author.Needs.{needs}
@@ -20,28 +20,28 @@ enum-told c = search needs
 
 returns : tie.Need-returns
 returns c =
-    odd _ _ _ _ _ _ (passed-directive _ _ (ap headerAnswer (sym (c .before .enum-told .given .1)) ∙ c .before .before .before .judged-directive .ensures)) (c .if1 .taken)
+    odd _ _ _ _ _ _ (passed-directive _ _ (ap lengthAnswer (sym (c .before .enum-told .given .1)) ∙ c .before .before .before .judged-directive .ensures)) (c .if1 .taken)
 
 scope-fits-requires : tie.Need-scope-fits-requires
 scope-fits-requires c κs = search needs
 
 returns-2 : tie.Need-returns-2
 returns-2 c =
-    bad-scope _ _ _ _ _ _ (passed-directive _ _ (ap headerAnswer (sym (c .before .before .before .enum-told .given .1)) ∙ c .before .before .before .before .before .judged-directive .ensures)) (c .before .before .if1 .left) (sym (c .before .scope-fits .ensures) ∙ not-true _ (c .if2 .taken))
+    bad-scope _ _ _ _ _ _ (passed-directive _ _ (ap lengthAnswer (sym (c .before .before .before .enum-told .given .1)) ∙ c .before .before .before .before .before .judged-directive .ensures)) (c .before .before .if1 .left) (sym (c .before .scope-fits .ensures) ∙ not-true _ (c .if2 .taken))
 
 most-pairs-requires : tie.Need-most-pairs-requires
 most-pairs-requires c κs = search needs
 
 returns-3 : tie.Need-returns-3
 returns-3 c =
-    too-many _ _ _ _ _ _ (passed-directive _ _ (ap headerAnswer (sym (c .before .before .before .before .before .enum-told .given .1)) ∙ c .before .before .before .before .before .before .before .judged-directive .ensures)) (c .before .before .before .before .if1 .left) (sym (c .before .before .before .scope-fits .ensures) ∙ not-false _ (c .before .before .if2 .left)) _ (c .before .most-pairs .ensures) (c .if3 .taken)
+    too-many _ _ _ _ _ _ (passed-directive _ _ (ap lengthAnswer (sym (c .before .before .before .before .before .enum-told .given .1)) ∙ c .before .before .before .before .before .before .before .judged-directive .ensures)) (c .before .before .before .before .if1 .left) (sym (c .before .before .before .scope-fits .ensures) ∙ not-false _ (c .before .before .if2 .left)) _ (c .before .most-pairs .ensures) (c .if3 .taken)
 
 returns-4 : tie.Need-returns-4
-returns-4 c = refused-nak _ _ _ _ _ _ _ (ap headerAnswer (sym (c .before .judged .given .1)) ∙ c .before .before .before .judged-directive .ensures)
+returns-4 c = refused-nak _ _ _ _ _ _ _ (ap lengthAnswer (sym (c .before .judged .given .1)) ∙ c .before .before .before .judged-directive .ensures)
 
 returns-5 : tie.Need-returns-5
 returns-5 c =
-    none-holds _ _ _ _ _ _ (passed-directive _ _ (ap headerAnswer (sym (c .before .before .before .before .before .enum-told .given .1)) ∙ c .before .before .before .before .before .before .before .judged-directive .ensures)) (c .before .before .before .before .if1 .left) (sym (c .before .before .before .scope-fits .ensures) ∙ not-false _ (c .before .before .if2 .left)) _ (c .before .most-pairs .ensures) (c .if3 .left)
+    none-holds _ _ _ _ _ _ (passed-directive _ _ (ap lengthAnswer (sym (c .before .before .before .before .before .enum-told .given .1)) ∙ c .before .before .before .before .before .before .before .judged-directive .ensures)) (c .before .before .before .before .if1 .left) (sym (c .before .before .before .scope-fits .ensures) ∙ not-false _ (c .before .before .if2 .left)) _ (c .before .most-pairs .ensures) (c .if3 .left)
 
 pub judge-count-spec : {M : Type 1} → statement M
 judge-count-spec =

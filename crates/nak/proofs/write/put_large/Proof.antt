@@ -72,7 +72,7 @@ same-length : tie.Need-same-length Inv-loop μ-loop
 same-length c = search needs
 
 returns : tie.Need-returns Inv-loop μ-loop
-returns c = numbers-done 8 _ (c .before .loop .i) _ _ _ (omega arith) (c .before .loop .inv .2)
+returns c = (numbers-done 8 _ (c .before .loop .i) _ _ _ (omega arith) (c .before .loop .inv .2), c .before .loop .inv .1)
 
 pub put-large-spec : {M : Type 1} → statement M
 put-large-spec =

@@ -82,7 +82,7 @@ same-length : tie.Need-same-length Inv-loop μ-loop
 same-length c = search needs
 
 returns : tie.Need-returns Inv-loop μ-loop
-returns c = numbers-done 4 _ (2 * c .before .loop .i) _ _ _ (omega (arith, c .before .before .before .before .pre .1)) (c .before .loop .inv .2)
+returns c = (numbers-done 4 _ (2 * c .before .loop .i) _ _ _ (omega (arith, c .before .before .before .before .pre .1)) (c .before .loop .inv .2), c .before .loop .inv .1)
 
 pub put-normal-spec : {M : Type 1} → statement M
 put-normal-spec =

@@ -1,7 +1,5 @@
 -- `nak::write::put_start` meets its contract: header, directive and scope, each behind the one before.
 -- Assumes nothing.
-use native.Mathlib.Omega.{arith}
-use Rattle.nak.proofs.Reading.{area-is}
 use Rattle.nak.proofs.Writing.{start-stored}
 use borrow.Author.Needs.{needs}
 use Rattle.nak.proofs.write.put_start.Statement.{statement}
@@ -31,16 +29,11 @@ write-be-requires-2 c κs = search needs
 write-be-requires-3 : tie.Need-write-be-requires-3
 write-be-requires-3 c κs = search needs
 
-add-result : tie.Need-add-result
-add-result c = search needs
-
 same-length : tie.Need-same-length
 same-length c = search needs
 
 returns : tie.Need-returns
-returns c =
-    let s = start-stored _ _ _ _ _ _ _ _ _ _ (c .before .before .before .before .before .before .before .before .before .before .before .before .before .before .before .before .before .before .before .pre .0) (c .before .before .before .before .before .before .before .before .before .before .before .before .before .before .before .before .before .before .before .pre .1) (c .before .before .before .before .before .before .before .before .before .before .before .before .before .before .before .before .before .before .before .pre .2) (c .before .before .before .before .before .before .before .before .before .before .before .before .before .before .before .before .before .header-len .ensures .0) (c .before .before .before .before .before .before .before .before .before .before .before .before .before .before .before .before .offset-width .ensures .0) (c .before .before .before .before .before .before .before .before .before .before .before .before .before .before .before .before .offset-width .ensures .2) (c .before .before .before .before .before .before .before .before .before .before .before .before .before .before .write-to-slice .ensures .1) (c .before .before .before .before .before .before .before .before .before .before .write-be .ensures) (c .before .before .before .before .before .before .write-be2 .ensures) (c .before .before .write-be3 .ensures) in
-    (omega (arith, area-is _ _ _ (c .before .before .before .before .before .before .before .before .before .before .before .before .before .before .before .before .before .header-len .ensures .0) (c .before .before .before .before .before .before .before .before .before .before .before .before .before .before .before .before .offset-width .ensures .0)), s .0, s .1)
+returns c = start-stored _ _ _ _ _ _ _ _ _ _ (c .before .before .before .before .before .before .before .before .before .before .before .before .before .before .before .before .before .before .before .pre .0) (c .before .before .before .before .before .before .before .before .before .before .before .before .before .before .before .before .before .before .before .pre .1) (c .before .before .before .before .before .before .before .before .before .before .before .before .before .before .before .before .before .before .before .pre .2) (c .before .before .before .before .before .before .before .before .before .before .before .before .before .before .before .before .before .header-len .ensures .0) (c .before .before .before .before .before .before .before .before .before .before .before .before .before .before .before .before .offset-width .ensures .0) (c .before .before .before .before .before .before .before .before .before .before .before .before .before .before .before .before .offset-width .ensures .2) (c .before .before .before .before .before .before .before .before .before .before .before .before .before .before .write-to-slice .ensures .1) (c .before .before .before .before .before .before .before .before .before .before .write-be .ensures) (c .before .before .before .before .before .before .write-be2 .ensures) (c .before .before .write-be3 .ensures)
 
 pub put-start-spec : {M : Type 1} → statement M
 put-start-spec =
@@ -54,6 +47,5 @@ put-start-spec =
     write-be-requires
     write-be-requires-2
     write-be-requires-3
-    add-result
     same-length
     returns)

@@ -1,9 +1,9 @@
--- `nak::write::write_normal_file_size` meets its contract: the answer, and the buffer that its calls left.
+-- `nak::write::write_normal_file_size` meets its contract: a refusal that changes nothing, or the numbers and the NAK around them.
 -- Assumes nothing.
 use mathlib.Core.Path.{refl, sym, ap, _∙_}
 use native.Mathlib.Omega.{arith}
 use Rattle.header.specs.Answers.{lengthAnswer}
-use Rattle.nak.proofs.Writing.{ToWrite, to-write, start-room, numbers-room, refused-write, length-written, nothing-written, nak-written}
+use Rattle.nak.proofs.Writing.{ToWrite, to-write, can-write, numbers-room, ready, nothing-written, nak-written}
 use borrow.Author.Needs.{needs}
 use Rattle.nak.proofs.write.write_normal_file_size.Statement.{statement}
 use Rattle.nak.proofs.write.write_normal_file_size.Tie as tie
@@ -14,46 +14,29 @@ writable-requires c κs = search needs
 enum-known-answer : tie.Need-enum-known-answer
 enum-known-answer c = search needs
 
-enum-known-answer-2 : tie.Need-enum-known-answer-2
-enum-known-answer-2 c = search needs
+enum-told : tie.Need-enum-told
+enum-told c = search needs
 
 fill-requires : tie.Need-fill-requires
-fill-requires c κs =
-    to-write _ _ _ _ _ _ _ (length-written _ _ _ _ _ _ _ _ (ap lengthAnswer (sym (c .before .answer2 .given .1)) ∙ c .before .before .before .writable .ensures) refl) .fewer
+fill-requires c κs = to-write _ _ _ _ _ _ _ (can-write _ _ _ _ _ _ _ _ (ap lengthAnswer (sym (c .enum-told .given .1)) ∙ c .before .before .writable .ensures) refl) .fewer
 
-put-start-requires : tie.Need-put-start-requires
-put-start-requires c κs =
-    let z = to-write _ _ _ _ _ _ _ (length-written _ _ _ _ _ _ _ _ (ap lengthAnswer (sym (c .before .before .before .answer2 .given .1)) ∙ c .before .before .before .before .before .writable .ensures) (c .before .fill .ensures)) in
-    (z .good, start-room _ _ _ _ _ _ _ z, z .scope)
+area-start-requires : tie.Need-area-start-requires
+area-start-requires c κs = search needs
 
 put-normal-requires : tie.Need-put-normal-requires
-put-normal-requires c κs =
-    let z = to-write _ _ _ _ _ _ _ (length-written _ _ _ _ _ _ _ _ (ap lengthAnswer (sym (c .before .before .before .before .before .before .before .answer2 .given .1)) ∙ c .before .before .before .before .before .before .before .before .before .writable .ensures) (c .before .before .before .before .before .fill .ensures)) in
-    omega (arith, numbers-room _ _ _ _ _ _ _ z, c .before .before .before .put-start .ensures .2, c .before .before .before .put-start .ensures .0)
+put-normal-requires c κs = let z = to-write _ _ _ _ _ _ _ (can-write _ _ _ _ _ _ _ _ (ap lengthAnswer (sym (c .before .before .before .enum-told .given .1)) ∙ c .before .before .before .before .before .writable .ensures) (c .before .before .fill .ensures)) in (omega (arith, numbers-room _ _ _ _ _ _ _ z, c .area-start .ensures .0), z .even)
 
-mul-add-pdu-crc : tie.Need-mul-add-pdu-crc
-mul-add-pdu-crc c =
-    let z = to-write _ _ _ _ _ _ _ (length-written _ _ _ _ _ _ _ _ (ap lengthAnswer (sym (c .before .before .before .before .before .before .before .before .before .before .before .answer2 .given .1)) ∙ c .before .before .before .before .before .before .before .before .before .before .before .before .before .writable .ensures) (c .before .before .before .before .before .before .before .before .before .fill .ensures)) in
-    omega (arith, numbers-room _ _ _ _ _ _ _ z, c .before .before .before .before .before .before .before .put-start .ensures .0)
-
-add-add-pdu-crc : tie.Need-add-add-pdu-crc
-add-add-pdu-crc c =
-    let z = to-write _ _ _ _ _ _ _ (length-written _ _ _ _ _ _ _ _ (ap lengthAnswer (sym (c .before .before .before .before .before .before .before .before .before .before .before .answer2 .given .1)) ∙ c .before .before .before .before .before .before .before .before .before .before .before .before .before .writable .ensures) (c .before .before .before .before .before .before .before .before .before .fill .ensures)) in
-    omega (arith, numbers-room _ _ _ _ _ _ _ z, c .before .before .before .before .before .before .before .put-start .ensures .0)
-
-add-pdu-crc-requires : tie.Need-add-pdu-crc-requires
-add-pdu-crc-requires c κs = search needs
+put-around-requires : tie.Need-put-around-requires
+put-around-requires c κs = ready _ _ _ _ _ _ _ (can-write _ _ _ _ _ _ _ _ (ap lengthAnswer (sym (c .before .before .before .before .before .before .before .enum-told .given .1)) ∙ c .before .before .before .before .before .before .before .before .before .writable .ensures) (c .before .before .before .before .before .before .fill .ensures)) _ (c .before .before .before .put-normal .ensures .1)
 
 returns : tie.Need-returns
-returns c =
-    nothing-written _ _ _ _ _ _ _ (refused-write _ _ _ _ _ _ _ (ap lengthAnswer (sym (c .before .answer .given .1)) ∙ c .before .before .before .writable .ensures))
+returns c = nothing-written _ _ _ _ _ _ _ (ap lengthAnswer (sym (c .before .answer .given .1)) ∙ c .before .before .before .writable .ensures)
 
 same-length : tie.Need-same-length
 same-length c = search needs
 
 returns-2 : tie.Need-returns-2
-returns-2 c =
-    nak-written _ _ _ _ _ _ _ (length-written _ _ _ _ _ _ _ _ (ap lengthAnswer (sym (c .before .before .before .before .before .before .before .before .before .before .before .before .before .before .answer2 .given .1)) ∙ c .before .before .before .before .before .before .before .before .before .before .before .before .before .before .before .before .writable .ensures) (c .before .before .before .before .before .before .before .before .before .before .before .before .fill .ensures)) 4 _ _ _ _ refl (c .before .before .before .before .before .before .before .before .before .before .put-start .ensures .0) (c .before .before .before .before .before .before .before .before .before .before .put-start .ensures .1) (c .before .before .before .before .before .before .put-normal .ensures) (c .before .before .add-pdu-crc .ensures)
+returns-2 c = nak-written _ _ _ _ _ _ _ (can-write _ _ _ _ _ _ _ _ (ap lengthAnswer (sym (c .before .before .before .before .before .before .before .before .before .before .enum-told .given .1)) ∙ c .before .before .before .before .before .before .before .before .before .before .before .before .writable .ensures) (c .before .before .before .before .before .before .before .before .before .fill .ensures)) _ 4 _ _ _ refl (c .before .before .before .before .before .before .before .area-start .ensures .0) (c .before .before .before .before .before .before .put-normal .ensures .0) (c .before .before .put-around .ensures .0) (c .before .before .put-around .ensures .1)
 
 pub write-normal-file-size-spec : {M : Type 1} → statement M
 write-normal-file-size-spec =
@@ -61,13 +44,11 @@ write-normal-file-size-spec =
     (tie.spec
     writable-requires
     enum-known-answer
-    enum-known-answer-2
+    enum-told
     fill-requires
-    put-start-requires
+    area-start-requires
     put-normal-requires
-    mul-add-pdu-crc
-    add-add-pdu-crc
-    add-pdu-crc-requires
+    put-around-requires
     returns
     same-length
     returns-2)

@@ -1,9 +1,9 @@
--- `nak::reserve::data_end` meets its contract: P, less a checksum.
+-- `nak::write::data_end` meets its contract: P, less a checksum.
 -- Assumes nothing.
-use Rattle.nak.proofs.Reserving.{end-is}
+use Rattle.nak.proofs.Writing.{end-is}
 use borrow.Author.Needs.{needs}
-use Rattle.nak.proofs.reserve.data_end.Statement.{statement}
-use Rattle.nak.proofs.reserve.data_end.Tie as tie
+use Rattle.nak.proofs.write.data_end.Statement.{statement}
+use Rattle.nak.proofs.write.data_end.Tie as tie
 
 bit-requires : tie.Need-bit-requires
 bit-requires c κs = search needs
