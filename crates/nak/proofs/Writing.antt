@@ -175,6 +175,10 @@ module _ (ts : List Test) (k : PduHeader) (room : ℕ) where
   unfolding lengthInto intoRoom
   length-into n j e p = ap (λ (x : PduHeader). accepted (handed-back x)) p ∙ sym (all-passed with-room (handed-back k) (passed with-room n (pduLength k) e .0))
 
+  pub length-handed : (n : ℕ) (j : PduHeader) → accepted n ≡ lengthInto ts k room → j ≡ k → record { header = j; length = n } ≡ handed-back j
+  unfolding lengthInto
+  length-handed n j e p = ap (λ (m : ℕ). record { header = j; length = m }) (passed with-room n (pduLength k) e .1 ∙ ap pduLength (sym p))
+
   pub length-passed : (n : ℕ) → accepted n ≡ lengthInto ts k room → Passed ts
   unfolding lengthInto
   length-passed n e = passed-first ts (noRoom room k ∷ []) (passed with-room n (pduLength k) e .0)
@@ -343,12 +347,20 @@ numbers-room file h start end count room w z = omega (arith, z .whole, z .room-i
 pub area-before : (file : LargeFileFlag) (h : PduHeader) (start end count room : ℕ) (w : NakWritten) → ToWrite file h start end count room w → areaStart (w .header) + offsetWidth file * count ≡ dataEnd (w .header)
 area-before file h start end count room w z = omega (arith, z .whole, end-sum (w .header))
 
--- what is asked of a header and a buffer, of whose length nothing was lost, before the NAK is stored around its requests
-pub ready : (file : LargeFileFlag) (h : PduHeader) (start end count room : ℕ) (k : PduHeader) → accepted (handed-back k) ≡ writingNak file h start end count room → (m : ℕ) → m ≡ room
-    → Passed (recordTests k) × (areaStart k ≤ dataEnd k) × (pduLength k ≤ m) × (scopeFits (k .file) start end ≡ true)
+-- what is asked of a header and a buffer before the NAK is stored around its requests; m is the length of the buffer, of which nothing was lost
+pub record Ready (k : PduHeader) (start end m : ℕ) : Type 0 where
+  pub good : Passed (recordTests k)
+  pub before : areaStart k ≤ dataEnd k
+  pub room : pduLength k ≤ m
+  pub start-room : areaStart k ≤ m
+  pub scope : scopeFits (k .file) start end ≡ true
+
+pub ready : (file : LargeFileFlag) (h : PduHeader) (start end count room : ℕ) (k : PduHeader) → accepted (handed-back k) ≡ writingNak file h start end count room → (m : ℕ) → m ≡ room → Ready k start end m
 ready file h start end count room k e m q =
     let z = to-write file h start end count room (handed-back k) e in
-    (z .good, omega (arith, area-before file h start end count room (handed-back k) z), rw q (z .room-is), z .scope)
+    let fits : pduLength k ≤ m = rw q (z .room-is) in
+    let before : areaStart k ≤ dataEnd k = omega (arith, area-before file h start end count room (handed-back k) z) in
+    record { good = z .good; before = before; room = fits; start-room = omega (arith, end-sum k); scope = z .scope }
 
 pub start-length : (h : PduHeader) (start end : ℕ) → length (startBytes h start end) ≡ areaStart h
 unfolding startBytes areaStart
@@ -389,12 +401,14 @@ sealed k start end n area s b₁ b₂ pn fit e₁ e₂ =
     let lXC : length (X ++ C) ≤ length s = omega (arith, length-append X C) in
     p ∙ sets-eq (X ++ C) s 0 (omega arith) ∙ ap (λ (j : ℕ). (X ++ C) ++ drop j s) (zero-add (length (X ++ C)))
 
-pub stored-around : (k : PduHeader) (start end n : ℕ) (s b₁ b₂ : List ℕ) → areaStart k ≤ dataEnd k → pduLength k ≤ length s → n ≡ dataEnd k
+pub stored-around : (k : PduHeader) (start end m n : ℕ) (s b₁ b₂ : List ℕ) → Ready k start end m → m ≡ length s → n ≡ dataEnd k
     → b₁ ≡ sets s 0 (startBytes k start end) → b₂ ≡ crcAdded (k .crc) n b₁ → b₂ ≡ around k start end s
 unfolding around areaIn
-stored-around k start end n s b₁ b₂ before room pn e₁ e₂ =
+stored-around k start end m n s b₁ b₂ z pm pn e₁ e₂ =
     let A = startBytes k start end in
     let B = take (dataEnd k - areaStart k) (drop (areaStart k) s) in
+    let before = z .before in
+    let room = z .room in
     let lA : length A ≡ areaStart k = start-length k start end in
     let ends : dataEnd k + 2 * crcBit (k .crc) ≡ pduLength k = end-sum k in
     let lB : length B ≡ dataEnd k - areaStart k = length-take-le (dataEnd k - areaStart k) (drop (areaStart k) s) (omega (arith, length-drop (areaStart k) s)) in

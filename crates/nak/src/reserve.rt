@@ -16,6 +16,7 @@ use crate::write::WriteResult;
 use fields::Refusal;
 use header::LengthResult;
 use header::PduHeader;
+use header::verify;
 
 // The header that was reserved for, the pairs, and where their bytes start and stop in the buffer.
 pub struct ReservedNak {
@@ -118,9 +119,12 @@ impl ReservedNak {
         let answer = finishable(given, count, start, end, buf.len());
         match answer {
             LengthResult::Refused(refusal) => WriteResult::Refused(refusal),
-            LengthResult::Length(_) => {
+            LengthResult::Length(length) => {
                 let header = keep(given, count);
-                WriteResult::Written(write::put_around(buf, header, start, end))
+                let crc = header.crc;
+                write::put_start(buf, header, start, end);
+                verify::add_pdu_crc(buf, write::data_end(header), crc);
+                WriteResult::Written(NakWritten { header, length })
             }
         }
     }

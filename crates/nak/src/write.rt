@@ -13,7 +13,7 @@ ghost use Rattle.header.specs.Judging.{recordTests};
 ghost use Rattle.nak.specs.Nak.{offsetWidth, areaStart};
 ghost use Rattle.nak.specs.Counting.{countAnswer};
 ghost use Rattle.nak.specs.Writing.{writeAnswer, numbersBytes, startBytes, dataLength, mostPairs, filled, scopeFits, nakTests, noRoom, writingNak, nakMemory};
-ghost use Rattle.nak.specs.Within.{lengthInto, around};
+ghost use Rattle.nak.specs.Within.{lengthInto};
 use crate::area_start;
 use crate::count::CountResult;
 use crate::offset_width;
@@ -149,7 +149,7 @@ fn writable(
 }
 
 // Header, directive and scope, at the front of the buffer.
-fn put_start(buf: &mut [u8], header: PduHeader, start: u64, end: u64)
+pub(crate) fn put_start(buf: &mut [u8], header: PduHeader, start: u64, end: u64)
     requires { ⌜ Passed (recordTests header) × (areaStart header ≤ length (now buf)) × (scopeFits (header .file) start end ≡ true) ⌝ }
     ensures { λ _. ⌜ now (buf .exit) ≡ sets (now (buf .entry)) 0 (startBytes header start end) ⌝ }
 {
@@ -171,20 +171,6 @@ pub(crate) fn data_end(header: PduHeader) -> usize
     let crc = header.crc;
     let sum = 2 * (crc.bit() as usize);
     header.pdu_len() - sum
-}
-
-// The NAK around its requests, which stand in the buffer already: what comes before them, and with the flag the checksum behind.
-pub(crate) fn put_around(buf: &mut [u8], header: PduHeader, start: u64, end: u64) -> NakWritten
-    requires { ⌜ Passed (recordTests header) × (areaStart header ≤ dataEnd header) × (pduLength header ≤ length (now buf)) × (scopeFits (header .file) start end ≡ true) ⌝ }
-    ensures { λ r. ⌜ (r ≡ record { header = header; length = pduLength header }) × (now (buf .exit) ≡ around header start end (now (buf .entry))) ⌝ }
-{
-    let crc = header.crc;
-    put_start(buf, header, start, end);
-    verify::add_pdu_crc(buf, data_end(header), crc);
-    NakWritten {
-        header,
-        length: header.pdu_len(),
-    }
 }
 
 // The number at i, and above it the next: so they stand in the memory of a little-endian machine.
@@ -249,9 +235,12 @@ pub fn write_no_segment_requests(
     let answer = writable(header, file, start, end, 0, buf.len());
     match answer {
         LengthResult::Refused(refusal) => WriteResult::Refused(refusal),
-        LengthResult::Length(_) => {
+        LengthResult::Length(length) => {
             let header = fill(header, file, 0);
-            WriteResult::Written(put_around(buf, header, start, end))
+            let crc = header.crc;
+            put_start(buf, header, start, end);
+            verify::add_pdu_crc(buf, data_end(header), crc);
+            WriteResult::Written(NakWritten { header, length })
         }
     }
 }
@@ -271,10 +260,13 @@ pub fn write_normal_file_size(
     let answer = writable(header, LargeFileFlag::Normal, start, end, count, buf.len());
     match answer {
         LengthResult::Refused(refusal) => WriteResult::Refused(refusal),
-        LengthResult::Length(_) => {
+        LengthResult::Length(length) => {
             let header = fill(header, LargeFileFlag::Normal, count / 2);
+            let crc = header.crc;
             put_normal(buf, area_start(header), numbers);
-            WriteResult::Written(put_around(buf, header, start, end))
+            put_start(buf, header, start, end);
+            verify::add_pdu_crc(buf, data_end(header), crc);
+            WriteResult::Written(NakWritten { header, length })
         }
     }
 }
@@ -294,10 +286,13 @@ pub fn write_large_file_size(
     let answer = writable(header, LargeFileFlag::Large, start, end, count, buf.len());
     match answer {
         LengthResult::Refused(refusal) => WriteResult::Refused(refusal),
-        LengthResult::Length(_) => {
+        LengthResult::Length(length) => {
             let header = fill(header, LargeFileFlag::Large, count / 2);
+            let crc = header.crc;
             put_large(buf, area_start(header), numbers);
-            WriteResult::Written(put_around(buf, header, start, end))
+            put_start(buf, header, start, end);
+            verify::add_pdu_crc(buf, data_end(header), crc);
+            WriteResult::Written(NakWritten { header, length })
         }
     }
 }
