@@ -1,25 +1,45 @@
--- Comparing headers: the answer at each test, that a header is the same as itself, and what two headers that are the same share.
+-- Comparing headers: all flags by one number, that a header is the same as itself, and what two headers that are the same share.
 -- Assumes nothing.
-use Prim.Native.Nat.{ℕ}
+use Prim.Native.Nat.{ℕ, _+_, _*_, _<_}
 use mathlib.Core.Path.{_≡_, refl, sym, ap, _∙_}
 use mathlib.Core.Bool.{Bool, true, false, _&&_, and-eq-true-iff}
+use native.Mathlib.Omega.{arith}
 use lib.Dec.{eqb}
-use borrow.Author.Tests.{eq-eqb, ne-eqb, eqb-true}
+use borrow.Author.Tests.{eq-eqb, ne-eqb, eqb-true, eqb-false}
 use Rattle.header.specs.declared.PduHeader.{PduHeader}
 use Rattle.header.specs.Flags.{pduTypeBit, pduTypeIf, directionBit, directionIf, modeBit, modeIf, crcBit, crcIf, fileBit, fileIf, controlBit, controlIf, metadataBit, metadataIf}
+use Rattle.header.specs.Header.{firstByte}
 use Rattle.header.specs.Comparing.{sameFlags, sameHeader}
+use Rattle.header.specs.Within.{flagBits}
 use Rattle.header.specs.Demands.{SameFields, SameHeaderShares}
 use Rattle.header.proofs.FlagBits as bits
 
--- two numbers that stand for two others differ, or agree, as those do
-pub differ : (a b x y : ℕ) → a ≡ x → b ≡ y → (a ≡ b → ⊥) → eqb x y ≡ false
-differ a b x y p q n = ne-eqb x y (rw (p, q) at n)
+-- two numbers with a bit behind each are the same where the numbers are and the bits are
+packed : (x y a b : ℕ) (r : Bool) → a < 2 → b < 2 → eqb x y ≡ r → eqb (x * 2 + a) (y * 2 + b) ≡ (r && eqb a b)
+packed x y a b r p q e = go r (eqb a b) e refl
+  where
+    go : (r s : Bool) → eqb x y ≡ r → eqb a b ≡ s → eqb (x * 2 + a) (y * 2 + b) ≡ (r && s)
+    go true true e f = eq-eqb (x * 2 + a) (y * 2 + b) (omega (arith, eqb-true))
+    go true false e f = ne-eqb (x * 2 + a) (y * 2 + b) (λ z. eqb-false a b f (omega (arith, eqb-true)))
+    go false s e f = ne-eqb (x * 2 + a) (y * 2 + b) (λ z. eqb-false x y e (omega arith))
 
-pub agree : (a b x y : ℕ) → a ≡ x → b ≡ y → a ≡ b → eqb x y ≡ true
-agree a b x y p q e = eq-eqb x y (rw (p, q) at e)
+-- byte 0, bit by bit
+in-row : (h : PduHeader) → firstByte h ≡ ((((1 * 2 + pduTypeBit (h .kind)) * 2 + directionBit (h .direction)) * 2 + modeBit (h .mode)) * 2 + crcBit (h .crc)) * 2 + fileBit (h .file)
+unfolding firstByte
+in-row h = omega arith
 
-pub as-is : (a b x y : ℕ) → a ≡ x → b ≡ y → eqb a b ≡ eqb x y
-as-is a b x y p q = rw (p, q)
+-- the numbers that hold all flags are the same where all flags are
+pub same-bits : (a b : PduHeader) (x y : ℕ) → x ≡ flagBits a → y ≡ flagBits b → eqb x y ≡ sameFlags a b
+unfolding sameFlags
+same-bits a b x y p q =
+    rw (p, q, in-row a, in-row b)
+    (packed _ _ _ _ _ (bits.metadata-bit (a .metadata)) (bits.metadata-bit (b .metadata))
+    (packed _ _ _ _ _ (bits.control-bit (a .control)) (bits.control-bit (b .control))
+    (packed _ _ _ _ _ (bits.file-bit (a .file)) (bits.file-bit (b .file))
+    (packed _ _ _ _ _ (bits.crc-bit (a .crc)) (bits.crc-bit (b .crc))
+    (packed _ _ _ _ _ (bits.mode-bit (a .mode)) (bits.mode-bit (b .mode))
+    (packed _ _ _ _ _ (bits.direction-bit (a .direction)) (bits.direction-bit (b .direction))
+    (packed 1 1 _ _ true (bits.pduType-bit (a .kind)) (bits.pduType-bit (b .kind)) refl)))))))
 
 pub same-self : (h : PduHeader) → sameHeader h h ≡ true
 unfolding sameHeader sameFlags

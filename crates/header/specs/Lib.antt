@@ -8,4 +8,5 @@ pub mod Writing
 pub mod Verifying
 pub mod Directive
 pub mod Comparing
+pub mod Within
 pub mod Demands

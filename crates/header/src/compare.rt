@@ -1,44 +1,24 @@
 // Comparing two headers: all fields, identifiers and sequence numbers by number, as in the Rust.
 ghost use mathlib.Core.Path.{_≡_};
 ghost use Rattle.header.specs.Comparing.{sameFlags, sameHeader};
+ghost use Rattle.header.specs.Within.{flagBits};
 use crate::PduHeader;
+use crate::write;
+
+// All flags of a header, each in a bit of its own.
+fn flag_bits(h: PduHeader) -> u16
+    ensures { λ r. ⌜ r ≡ flagBits h ⌝ }
+{
+    let control = h.control;
+    let metadata = h.metadata;
+    let bits = (write::first_byte(h) as u16) * 2 + (control.bit() as u16);
+    bits * 2 + (metadata.bit() as u16)
+}
 
 fn same_flags(a: PduHeader, b: PduHeader) -> bool
     ensures { λ r. ⌜ r ≡ sameFlags a b ⌝ }
 {
-    let one = a.kind;
-    let other = b.kind;
-    if one.bit() != other.bit() {
-        return false;
-    }
-    let one = a.direction;
-    let other = b.direction;
-    if one.bit() != other.bit() {
-        return false;
-    }
-    let one = a.mode;
-    let other = b.mode;
-    if one.bit() != other.bit() {
-        return false;
-    }
-    let one = a.crc;
-    let other = b.crc;
-    if one.bit() != other.bit() {
-        return false;
-    }
-    let one = a.file;
-    let other = b.file;
-    if one.bit() != other.bit() {
-        return false;
-    }
-    let one = a.control;
-    let other = b.control;
-    if one.bit() != other.bit() {
-        return false;
-    }
-    let one = a.metadata;
-    let other = b.metadata;
-    one.bit() == other.bit()
+    flag_bits(a) == flag_bits(b)
 }
 
 impl PduHeader {

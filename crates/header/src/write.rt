@@ -23,7 +23,7 @@ fn beside(high: u8, k: u8, low: u8) -> u8
     (high << k) | low
 }
 
-fn first_byte(h: PduHeader) -> u8
+pub(crate) fn first_byte(h: PduHeader) -> u8
     ensures { λ r. ⌜ r ≡ firstByte h ⌝ }
 {
     let kind = h.kind;
