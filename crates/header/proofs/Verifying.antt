@@ -87,16 +87,10 @@ pub end-le : (h : PduHeader) → dataEnd h ≤ pduLength h
 unfolding dataEnd
 end-le h = omega arith
 
--- a PDU asks for its bytes once, and what it hands on are its first P bytes
+-- a PDU asks for its bytes once
 pub pdu-one : (h : PduHeader) → AtMost (pduBytes h) 1
 unfolding pduBytes
 pdu-one h = λ _. tt
-
-pub pdu-is : (h : PduHeader) (s p : List ℕ) → run (pduBytes h) s ≡ accepted p → (pduLength h ≤ length s) × (take (pduLength h) s ≡ p)
-unfolding pduBytes
-pdu-is h s p e =
-    let k = passed-all (pduBytes h) s p e in
-    (k .0, k .1 .1)
 
 -- ---- the writer's side
 
