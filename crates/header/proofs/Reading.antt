@@ -1,7 +1,7 @@
 -- Reading a header: its answer at each exit, and a header made of its parts.
 -- Assumes nothing.
-use Prim.Native.Nat.{ℕ, _+_, _*_, _/_, _%_, _≤_, _<_}
-use mathlib.Core.Path.{_≡_, refl, _∙_}
+use Prim.Native.Nat.{ℕ, _+_, _≤_, _<_}
+use mathlib.Core.Path.{_≡_, sym, _∙_}
 use mathlib.Core.Bool.{Bool, true, false}
 use mathlib.Core.List.{List, [], _∷_}
 use native.Mathlib.Omega.{arith}
@@ -26,60 +26,42 @@ use Rattle.header.specs.declared.flags.SegmentationControl.{Segmentation
 use Rattle.header.specs.declared.flags.SegmentMetadataFlag.{SegmentMetadataFlag}
 use Rattle.header.specs.Flags.{pduTypeIf, directionIf, modeIf, crcIf, fileIf, controlIf, metadataIf}
 use Rattle.header.specs.Reading.{isSet, versionIn, entityWidthIn, sequenceWidthIn, headerLengthIn, headerIn, readingHeader}
-use Rattle.header.specs.Within.{wholeHeader}
 
 module _ (s : List ℕ) where
-  -- the first stage's bytes are the buffer's
-  first : getD (take 4 s) 0 0 ≡ getD s 0 0
-  first = getD-take 4 s 0 0 (lit< tt)
-
-  fourth : getD (take 4 s) 3 0 ≡ getD s 3 0
-  fourth = getD-take 4 s 3 0 (lit< tt)
-
   pub short-4 : length s < 4 → told (1 ∷ length s ∷ 4 ∷ []) ≡ run readingHeader s
   unfolding told readingHeader
   short-4 h = rw (lt-ltb _ _ h)
 
   module _ (long : 4 ≤ length s) where
-    pub bad-version : (v : ℕ) → v ≡ versionIn s → (v ≡ 1 → ⊥) → told (2 ∷ v ∷ []) ≡ run readingHeader s
+    pub bad-version : (v : ℕ) → v ≡ versionIn (take 4 s) → (v ≡ 1 → ⊥) → told (2 ∷ v ∷ []) ≡ run readingHeader s
     unfolding told readingHeader
-    bad-version v p n = rw (le-ltb _ _ long, first, ← p, ne-eqb _ _ n)
+    bad-version v p n = rw p (rw (le-ltb _ _ long, ne-eqb _ _ (rw p at n)))
 
-    module _ (one : versionIn s ≡ 1) where
-      pub bad-entity : (e : ℕ) → e ≡ entityWidthIn s → isWidth e ≡ false → told (3 ∷ e ∷ []) ≡ run readingHeader s
+    module _ (one : versionIn (take 4 s) ≡ 1) where
+      pub bad-entity : (e : ℕ) → e ≡ entityWidthIn (take 4 s) → isWidth e ≡ false → told (3 ∷ e ∷ []) ≡ run readingHeader s
       unfolding told readingHeader
-      bad-entity e p w = rw (le-ltb _ _ long, first, fourth, eq-eqb _ _ one, ← p, w)
+      bad-entity e p w = rw p (rw (le-ltb _ _ long, eq-eqb _ _ one, rw p at w))
 
-      module _ (e : ℕ) (pe : e ≡ entityWidthIn s) (we : isWidth e ≡ true) where
-        pub bad-sequence : (q : ℕ) → q ≡ sequenceWidthIn s → isWidth q ≡ false → told (4 ∷ q ∷ []) ≡ run readingHeader s
+      module _ (e : ℕ) (pe : e ≡ entityWidthIn (take 4 s)) (we : isWidth e ≡ true) where
+        pub bad-sequence : (q : ℕ) → q ≡ sequenceWidthIn (take 4 s) → isWidth q ≡ false → told (4 ∷ q ∷ []) ≡ run readingHeader s
         unfolding told readingHeader
-        bad-sequence q p w = rw (le-ltb _ _ long, first, fourth, eq-eqb _ _ one, ← pe, we, ← p, w)
+        bad-sequence q p w = rw p (rw (le-ltb _ _ long, eq-eqb _ _ one, rw pe at we, rw p at w))
 
-        -- the fixed bytes passed: the last stage decides
-        pub good-fixed : (q : ℕ) → q ≡ sequenceWidthIn s → isWidth q ≡ true → wholeHeader s ≡ run readingHeader s
-        unfolding readingHeader wholeHeader
-        good-fixed q p w = rw (le-ltb _ _ long, first, fourth, eq-eqb _ _ one, ← pe, we, ← p, w)
+        module _ (q : ℕ) (pq : q ≡ sequenceWidthIn (take 4 s)) (wq : isWidth q ≡ true) (h : ℕ) (ph : h ≡ headerLengthIn (take 4 s)) where
+          pub short-h : length s < h → told (1 ∷ length s ∷ h ∷ []) ≡ run readingHeader s
+          unfolding told readingHeader
+          short-h t = rw (le-ltb _ _ long, eq-eqb _ _ one, rw pe at we, rw pq at wq, ← ph, lt-ltb _ _ t)
 
--- a width in the lowest bits
-pub lowest : (q b : ℕ) → q ≡ b / 1 % 8 + 1 → q ≡ b % 8 + 1
-lowest q b e = omega arith
+          pub whole : h ≤ length s → accepted (headerIn (take h s)) ≡ run readingHeader s
+          unfolding readingHeader
+          whole t = rw (le-ltb _ _ long, eq-eqb _ _ one, rw pe at we, rw pq at wq, ← ph, le-ltb _ _ t)
 
--- the last stage, whose h is told by the widths
-module _ (s : List ℕ) (e q : ℕ) (pe : e ≡ entityWidthIn s) (pq : q ≡ sequenceWidthIn s) where
-  abbrev h : ℕ
-  h = 4 + 2 * e + q
-
-  pub short-h : length s < h → told (1 ∷ length s ∷ h ∷ []) ≡ wholeHeader s
-  unfolding told wholeHeader
-  short-h l = rw (← pe, ← pq, lt-ltb _ _ l)
-
-  pub whole : h ≤ length s → accepted (headerIn (take h s)) ≡ wholeHeader s
-  unfolding wholeHeader
-  whole l = rw (← pe, ← pq, le-ltb _ _ l)
-
-  -- the first h bytes hold the header
-  pub holds : h ≤ length s → headerLengthIn (take h s) ≤ length (take h s)
-  holds l = rw (getD-take h s 3 0 (omega arith), length-take-le h s l, ← pe, ← pq) (le-of-eq refl)
+-- the first h bytes hold the header
+pub holds : (s : List ℕ) (h : ℕ) → h ≡ headerLengthIn (take 4 s) → h ≤ length s → headerLengthIn (take h s) ≤ length (take h s)
+holds s h p l =
+    let k : 3 < h = omega arith in
+    let e : h ≡ headerLengthIn s = rw (getD-take 4 s 3 0 (lit< tt)) at p in
+    rw (getD-take h s 3 0 k, length-take-le h s l) (le-of-eq (sym e))
 
 -- a header is made of its parts
 module _ (s : List ℕ) (long : headerLengthIn s ≤ length s) where

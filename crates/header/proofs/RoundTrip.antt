@@ -5,7 +5,7 @@ use mathlib.Core.Path.{_≡_, sym, ap, ap₂, _∙_}
 use mathlib.Core.Bool.{Bool, true}
 use mathlib.Core.List.{List, _++_, append-assoc}
 use native.Mathlib.Omega.{arith}
-use lib.Dec.{eqb}
+use lib.Dec.{eqb, lit<}
 use lib.ListN.{length, getD, take, length-append}
 use lib.Seq.{getD-take}
 use Rattle.fields.specs.Width.{isWidth}
@@ -18,9 +18,9 @@ use Rattle.header.specs.declared.PduHeader.{PduHeader}
 use Rattle.header.specs.Flags.{pduTypeIf, directionIf, modeIf, crcIf, fileIf, controlIf, metadataIf}
 use Rattle.header.specs.Header.{entityWidth, sequenceWidth, headerLength, firstByte, fourthByte, headerBytes}
 use Rattle.header.specs.Judging.{Sound}
-use Rattle.header.specs.Reading.{isSet, entityWidthIn, sequenceWidthIn, headerIn, readingHeader}
+use Rattle.header.specs.Reading.{isSet, entityWidthIn, sequenceWidthIn, headerLengthIn, headerIn, readingHeader}
 use Rattle.header.proofs.FlagBits as bits
-use Rattle.header.proofs.Reading.{good-fixed, whole}
+use Rattle.header.proofs.Reading.{whole}
 use Rattle.header.proofs.Writing.{header-length}
 
 module _ (h : PduHeader) (k : Sound h) (small : h .length < 2 ^ 16) where
@@ -59,6 +59,14 @@ module _ (h : PduHeader) (k : Sound h) (small : h .length < 2 ^ 16) where
   sequence-is =
       omega
       (arith, bits.fourth-sequence _ (e - 1) _ (q - 1) (bits.control-bit (h .control)) (omega arith) (bits.metadata-bit (h .metadata)) (omega arith))
+
+  length-is : (s : List ℕ) → e ≡ entityWidthIn s → q ≡ sequenceWidthIn s → headerLength h ≡ headerLengthIn s
+  unfolding headerLength
+  length-is s p r = omega arith
+
+  four-fixed : 4 ≤ headerLength h
+  unfolding headerLength
+  four-fixed = omega arith
 
   -- ---- a list that has the header's bytes 0 and 3 and its numbers holds the header
 
@@ -158,6 +166,9 @@ module _ (h : PduHeader) (k : Sound h) (small : h .length < 2 ^ 16) where
         let t : headerBytes h ++ r ≡ x₅ ++ (beBytes e (h .destination .0) ++ r) = simp append-assoc in
         rw t (number-back x₅ r (4 + e + q) e (h .destination .0) length₅ (k .destination-fits))
 
+    first-four : (i : ℕ) → i < 4 → getD (take 4 (headerBytes h ++ r)) i 0 ≡ getD (headerBytes h ++ r) i 0
+    first-four i l = getD-take 4 (headerBytes h ++ r) i 0 l
+
     long : headerLength h ≤ length (headerBytes h ++ r)
     long = omega (arith, length-append (headerBytes h) r, header-length h)
 
@@ -174,10 +185,13 @@ module _ (h : PduHeader) (k : Sound h) (small : h .length < 2 ^ 16) where
         (number-take m n (4 + e + q) e (omega arith) ∙ destination-back)
 
     pub reads-back : isWidth e ≡ true → isWidth q ≡ true → run readingHeader (headerBytes h ++ r) ≡ accepted h
-    unfolding headerLength
     reads-back we wq =
         let m = headerBytes h ++ r in
-        let pe : e ≡ entityWidthIn m = sym (ap (λ (b : ℕ). b / 16 % 8 + 1) (fourth-at r) ∙ entity-is) in
-        let pq : q ≡ sequenceWidthIn m = sym (ap (λ (b : ℕ). b % 8 + 1) (fourth-at r) ∙ sequence-is) in
-        sym (whole m e q pe pq long ∙ good-fixed m (omega (arith, long)) (ap (λ (b : ℕ). b / 32 % 8) (first-at r) ∙ version-is) e pe we q pq wq)
+        let f : getD (take 4 m) 0 0 ≡ firstByte h = first-four 0 (lit< tt) ∙ first-at r in
+        let g : getD (take 4 m) 3 0 ≡ fourthByte h = first-four 3 (lit< tt) ∙ fourth-at r in
+        let pe : e ≡ entityWidthIn (take 4 m) = sym (ap (λ (b : ℕ). b / 16 % 8 + 1) g ∙ entity-is) in
+        let pq : q ≡ sequenceWidthIn (take 4 m) = sym (ap (λ (b : ℕ). b % 8 + 1) g ∙ sequence-is) in
+        let ph : headerLength h ≡ headerLengthIn (take 4 m) = length-is (take 4 m) pe pq in
+        let l : 4 ≤ headerLength h = four-fixed in
+        sym (whole m (omega (arith, long)) (ap (λ (b : ℕ). b / 32 % 8) f ∙ version-is) e pe we q pq wq (headerLength h) ph long)
         ∙ ap accepted header-first

@@ -4,8 +4,7 @@ ghost use Prim.Native.Nat.{_+_, _/_, _%_, _^_, _≤_, _<_};
 ghost use lib.ListN.{length};
 ghost use Rattle.fields.specs.Staged.{run};
 ghost use Rattle.header.specs.Answers.{headerAnswer};
-ghost use Rattle.header.specs.Reading.{isSet, entityWidthIn, sequenceWidthIn, headerLengthIn, headerIn, readingHeader};
-ghost use Rattle.header.specs.Within.{wholeHeader};
+ghost use Rattle.header.specs.Reading.{isSet, headerLengthIn, headerIn, readingHeader};
 use crate::CrcFlag;
 use crate::Direction;
 use crate::FIXED_HEADER_LEN;
@@ -85,19 +84,6 @@ fn short(found: usize, expected: usize) -> HeaderResult
     HeaderResult::Refused(Refusal::FromSliceTooSmall { found, expected })
 }
 
-// The header, whose widths are known, if all of it is there.
-fn whole_header(buf: &[u8], entity: u8, sequence: u8) -> HeaderResult
-    requires { ⌜ (entity ≡ entityWidthIn (now buf)) × (sequence ≡ sequenceWidthIn (now buf)) ⌝ }
-    ensures { λ r. ⌜ headerAnswer r ≡ wholeHeader (now (buf .entry)) ⌝ }
-{
-    let n = buf.len();
-    let len = FIXED_HEADER_LEN + 2 * (entity as usize) + (sequence as usize);
-    if n < len {
-        return short(n, len);
-    }
-    HeaderResult::Header(header_in(&buf[..len]))
-}
-
 impl PduHeader {
     // Only the header is asked for: the rest of the PDU may be missing, and its checksum is not looked at.
     pub fn from_bytes(buf: &[u8]) -> HeaderResult
@@ -107,19 +93,23 @@ impl PduHeader {
         if n < FIXED_HEADER_LEN {
             return short(n, FIXED_HEADER_LEN);
         }
-        let version = three_at(buf[0], 5);
+        let fixed = &buf[..FIXED_HEADER_LEN];
+        let version = three_at(fixed[0], 5);
         if version != CFDP_VERSION_2 {
             return HeaderResult::Refused(Refusal::CfdpVersionMissmatch(version));
         }
-        let fourth = buf[3];
-        let entity = width_at(fourth, 4);
+        let entity = width_at(fixed[3], 4);
         if !field::is_width(entity) {
             return HeaderResult::Refused(Refusal::InvalidEntityLen(entity));
         }
-        let sequence = width_at(fourth, 0);
+        let sequence = width_at(fixed[3], 0);
         if !field::is_width(sequence) {
             return HeaderResult::Refused(Refusal::InvalidTransactionSeqNumLen(sequence));
         }
-        whole_header(buf, entity, sequence)
+        let len = FIXED_HEADER_LEN + 2 * (entity as usize) + (sequence as usize);
+        if n < len {
+            return short(n, len);
+        }
+        HeaderResult::Header(header_in(&buf[..len]))
     }
 }
