@@ -50,7 +50,7 @@ impl PduHeader {
         }
     }
 
-    // h, the bytes of the header, if a directive PDU can have it. Of the two the record is the longer to hand back.
+    // h, the bytes of the header, if a directive PDU can have the record, which would be longer to hand back.
     pub fn judged_directive(self) -> LengthResult
         ensures { λ r. ⌜ lengthAnswer r ≡ judgingDirective self ⌝ }
     {

@@ -18,8 +18,8 @@ use Rattle.nak.specs.declared.reserve.ReservedNak.{ReservedNak}
 use Rattle.nak.specs.Nak.{areaStart}
 use Rattle.nak.specs.Writing.{nakOver, mostPairs, filled, scopeFits, scopeTooLarge, tooMany, noRoom, judgingNak, intoRoom, writingNak}
 use Rattle.nak.specs.Reserving.{pairTests, keeping, placed, reserving, finishTests, finishing, areaIn, finishedMemory}
-use Rattle.nak.specs.Within.{lengthInto, around}
-use Rattle.nak.proofs.Writing.{handed-back, judged-nak, into-room, refused-length, refused-into, length-into, length-passed}
+use Rattle.nak.specs.Within.{lengthInto}
+use Rattle.nak.proofs.Writing.{handed-back, around, judged-nak, into-room, refused-length, refused-into, length-into, length-passed}
 
 -- ---- the judgement of the pairs
 

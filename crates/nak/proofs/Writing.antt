@@ -38,7 +38,7 @@ use Rattle.nak.specs.declared.write.NakWritten.{NakWritten}
 use Rattle.nak.specs.Nak.{offsetWidth, pairSize, areaStart}
 use Rattle.nak.specs.Writing.{numbersBytes, startBytes, nakOver, nakBytes, dataLength, mostPairs, filled, scopeFits, oddCount, scopeTooLarge, tooMany, noRoom, nakTests, judgingNak, intoRoom, writingNak, nakMemory}
 use Rattle.nak.specs.Reserving.{areaIn}
-use Rattle.nak.specs.Within.{lengthInto, around}
+use Rattle.nak.specs.Within.{lengthInto}
 
 -- ---- the scope
 
@@ -367,6 +367,12 @@ unfolding startBytes areaStart
 start-length h start end = simp (length-append, be-length, header-length) (omega arith)
 
 -- ---- what is stored around the requests
+
+-- a buffer in which the requests stand, with the NAK around them
+unfoldable pub around : PduHeader → ℕ → ℕ → List ℕ → List ℕ
+around h start end s =
+    let bytes = nakOver h start end (areaIn h s) in
+    bytes ++ drop (length bytes) s
 
 -- where the data ends
 pub end-is : (h : PduHeader) (b p : ℕ) → b ≡ crcBit (h .crc) → p ≡ pduLength h → (2 * b ≤ p) × (p - 2 * b ≡ dataEnd h)

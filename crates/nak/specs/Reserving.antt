@@ -32,17 +32,17 @@ keeping h n = filled (h .file) n h
 abbrev pub placed : PduHeader → ℕ → ReservedNak
 placed w n = record { header = w; count = n; area = areaStart w; stop = dataEnd w }
 
--- 'Reserving: 3, 4, 14, 10, 11'
+-- reserving: those, then '11'
 unfoldable pub reserving : PduHeader → ℕ → ℕ → Answer ReservedNak
 reserving h n room = firstOf (pairTests h n ++ (noRoom room (keeping h n) ∷ [])) (placed (keeping h n) n)
 
 -- ---- finishing: direction and length are worked out anew from the record's flags, widths and pair count
 
--- '3, 4, 14, 10, 9'
+-- finishing: those, then '9'
 unfoldable pub finishTests : PduHeader → ℕ → ℕ → ℕ → List Test
 finishTests h n start end = pairTests h n ++ (scopeTooLarge (h .file) start end ∷ [])
 
--- then '11'
+-- and '11'
 unfoldable pub finishing : ReservedNak → ℕ → ℕ → ℕ → Answer NakWritten
 finishing r start end room = intoRoom (finishTests (r .header) (r .count) start end) (keeping (r .header) (r .count)) room
 

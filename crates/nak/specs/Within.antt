@@ -2,25 +2,17 @@
 use Prim.Native.Nat.{ℕ}
 use mathlib.Core.Bool.{Bool, _&&_}
 use mathlib.Core.List.{List, [], _∷_, _++_}
-use lib.ListN.{length, drop}
 use Rattle.fields.specs.Answer.{Answer, accepted, andThen, Test, firstOf}
 use Rattle.header.specs.declared.PduHeader.{PduHeader}
 use Rattle.header.specs.declared.flags.LargeFileFlag.{LargeFileFlag}
 use Rattle.header.specs.Header.{pduLength}
 use Rattle.nak.specs.declared.Nak.{Nak}
-use Rattle.nak.specs.Writing.{nakOver, noRoom, judgingNak}
-use Rattle.nak.specs.Reserving.{areaIn}
+use Rattle.nak.specs.Writing.{noRoom, judgingNak}
 use Rattle.nak.specs.Comparing.{sameNak}
 
 -- those tests, then 11, as in `intoRoom`; of what is accepted only the written length
 unfoldable pub lengthInto : List Test → PduHeader → ℕ → Answer ℕ
 lengthInto ts h room = firstOf (ts ++ (noRoom room h ∷ [])) (pduLength h)
-
--- a buffer in which the requests stand, with the NAK around them
-unfoldable pub around : PduHeader → ℕ → ℕ → List ℕ → List ℕ
-around h start end s =
-    let bytes = nakOver h start end (areaIn h s) in
-    bytes ++ drop (length bytes) s
 
 -- comparing, of a NAK that was read; `held` is whether its area is exactly the numbers
 unfoldable pub comparingRead : LargeFileFlag → PduHeader → ℕ → ℕ → ℕ → Nak → Bool → Answer Bool
