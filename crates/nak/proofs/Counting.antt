@@ -1,13 +1,11 @@
 -- Most requests for a packet size: the answer at each exit, and that the writer accepts so many and no more.
 -- Assumes nothing.
-use Prim.Native.Nat.{ℕ, _+_, _-_, _*_, _/_, _≤_, _<_}
+use Prim.Native.Nat.{ℕ, _+_, _-_, _*_, _/_, _≤_, _<_, min}
 use mathlib.Core.Path.{_≡_, refl, sym, ap, _∙_}
-use mathlib.Core.Bool.{Bool, true, false}
+use mathlib.Core.Bool.{true}
 use mathlib.Core.List.{List, [], _∷_, _++_}
 use native.Mathlib.Omega.{arith}
-use lib.Dec.{ltb}
-use borrow.Author.Tests.{lt-ltb, le-ltb, ltb-true, ltb-false}
-use Rattle.fields.specs.Choice.{if_then_else_}
+use borrow.Author.Tests.{lt-ltb, le-ltb, ltb-false}
 use Rattle.fields.specs.Answer.{accepted, told, firstOf}
 use Rattle.fields.proofs.Judging.{Passed, passed, passed-first, passed-last, passed-on}
 use Rattle.header.proofs.Directives.{refused-directive}
@@ -23,7 +21,7 @@ use Rattle.header.specs.Directive.{directiveTests, judgingDirective}
 use Rattle.nak.specs.declared.write.NakWritten.{NakWritten}
 use Rattle.nak.specs.Nak.{pairSize, areaStart}
 use Rattle.nak.specs.Writing.{dataLength, mostPairs, filled, scopeFits, intoRoom, writingNak}
-use Rattle.nak.specs.Counting.{leastPacket, packetTooSmall, bySize, smaller, mostRequests, ofPairs, JustFit, MostRequestsFit}
+use Rattle.nak.specs.Counting.{leastPacket, packetTooSmall, bySize, mostRequests, ofPairs, JustFit, MostRequestsFit}
 use Rattle.nak.proofs.Writing.{ToWrite, to-write, judged-nak, into-room}
 
 pub least-is : (h : PduHeader) (a b : ℕ) → a ≡ areaStart h → b ≡ crcBit (h .crc) → a + 2 * b ≡ leastPacket h
@@ -35,7 +33,7 @@ unfolding mostRequests
 refused-count h size ns e = refused-directive h (packetTooSmall h size ∷ []) _ ns e
 
 module _ (h : PduHeader) (size : ℕ) (good : Passed (directiveTests h)) (least : ℕ) (is : least ≡ leastPacket h) where
-  rest : mostRequests h size ≡ firstOf (packetTooSmall h size ∷ []) (smaller (bySize h size) (mostPairs (h .file)))
+  rest : mostRequests h size ≡ firstOf (packetTooSmall h size ∷ []) (min (bySize h size) (mostPairs (h .file)))
   unfolding mostRequests
   rest = passed-on (directiveTests h) _ _ good
 
@@ -45,27 +43,16 @@ module _ (h : PduHeader) (size : ℕ) (good : Passed (directiveTests h)) (least 
 
   module _ (pair most : ℕ) (pp : pair ≡ pairSize (h .file)) (pm : most ≡ mostPairs (h .file)) (l : least ≤ size) where
     pub limited : most < (size - least) / pair → accepted most ≡ mostRequests h size
-    limited k = rw (rest, ← is, le-ltb _ _ l, ← pp, ← pm, lt-ltb _ _ k)
+    limited k =
+        let e : min ((size - least) / pair) most ≡ most = omega arith in
+        rw (rest, ← is, le-ltb _ _ l, ← pp, ← pm, e)
 
     pub counted : (size - least) / pair ≤ most → accepted ((size - least) / pair) ≡ mostRequests h size
-    counted k = rw (rest, ← is, le-ltb _ _ l, ← pp, ← pm, le-ltb _ _ k)
+    counted k =
+        let e : min ((size - least) / pair) most ≡ (size - least) / pair = omega arith in
+        rw (rest, ← is, le-ltb _ _ l, ← pp, ← pm, e)
 
 -- ---- so many are accepted by the writer, and no more
-
--- what is at most the smaller is at most both, and the other way round
-least-of-both : (a b m : ℕ) → m ≤ smaller a b → (m ≤ a) × (m ≤ b)
-least-of-both a b m l = go (ltb b a) refl l
-  where
-    go : (c : Bool) → ltb b a ≡ c → m ≤ (if c then b else a) → (m ≤ a) × (m ≤ b)
-    go true e k = (omega (arith, ltb-true b a e), k)
-    go false e k = (k, omega (arith, ltb-false b a e))
-
-both-at-least : (a b m : ℕ) → m ≤ a → m ≤ b → m ≤ smaller a b
-both-at-least a b m la lb = go (ltb b a)
-  where
-    go : (c : Bool) → m ≤ (if c then b else a)
-    go true = lb
-    go false = la
 
 -- m pairs fit so many bytes exactly where m is at most their quotient
 pairs-in : (file : LargeFileFlag) (n m : ℕ) → m ≤ n / pairSize file → m * pairSize file ≤ n
@@ -85,7 +72,7 @@ length-of h m =
 
 module _ (h : PduHeader) (start end size n : ℕ) (scope : scopeFits (h .file) start end ≡ true) (e : mostRequests h size ≡ accepted n) where
   abbrev most-of : ℕ
-  most-of = smaller (bySize h size) (mostPairs (h .file))
+  most-of = min (bySize h size) (mostPairs (h .file))
 
   -- the record is good, the size is not below the least, and the count is the smaller of both
   counts : (Passed (directiveTests h) × (leastPacket h ≤ size)) × (n ≡ most-of)
@@ -98,7 +85,8 @@ module _ (h : PduHeader) (start end size n : ℕ) (scope : scopeFits (h .file) s
   unfolding intoRoom
   fits m l =
       let c = counts in
-      let b = least-of-both (bySize h size) (mostPairs (h .file)) m (rw (c .1) at l) in
+      let k : m ≤ min (bySize h size) (mostPairs (h .file)) = rw (c .1) at l in
+      let b : (m ≤ bySize h size) × (m ≤ mostPairs (h .file)) = (omega arith, omega arith) in
       let half : (2 * m) / 2 ≡ m = omega arith in
       let j = judged-nak (h .file) h start end (2 * m) (c .0 .0) (omega arith) scope (mostPairs (h .file)) refl (rw half (b .1)) in
       let room : pduLength (filled (h .file) m h) ≤ size = omega (arith, length-of h m, pairs-in (h .file) (size - leastPacket h) m (b .0), c .0 .1) in
@@ -113,7 +101,7 @@ module _ (h : PduHeader) (start end size n : ℕ) (scope : scopeFits (h .file) s
       let long : pduLength (filled (h .file) m h) ≤ size = omega (arith, z .room-is, z .length-is, ap pduLength is) in
       let a = pairs-of (h .file) (size - leastPacket h) m (omega (arith, length-of h m, long)) in
       let b : m ≤ mostPairs (h .file) = rw half at (z .fewer) in
-      omega (arith, both-at-least (bySize h size) (mostPairs (h .file)) m a b, counts .1)
+      omega (arith, counts .1)
 
 pub most-requests-fit : MostRequestsFit
 most-requests-fit h start end size n scope e = record { fit = fits h start end size n scope e; more = no-more h start end size n scope e }

@@ -1,10 +1,9 @@
 -- Most requests for a packet size (document 01, and document 02's C-08), and that the writer accepts so many and no more.
-use Prim.Native.Nat.{ℕ, _+_, _-_, _*_, _/_, _≤_, _<_}
+use Prim.Native.Nat.{ℕ, _+_, _-_, _*_, _/_, _≤_, _<_, min}
 use mathlib.Core.Path.{_≡_}
 use mathlib.Core.Bool.{true}
 use mathlib.Core.List.{List, [], _∷_, _++_}
 use lib.Dec.{ltb}
-use Rattle.fields.specs.Choice.{if_then_else_}
 use Rattle.fields.specs.Answer.{Answer, accepted, told, Test, when, firstOf}
 use Rattle.fields.specs.Refusal.{paper}
 use Rattle.header.specs.declared.PduHeader.{PduHeader}
@@ -33,13 +32,9 @@ packetTooSmall h size = when (ltb size (leastPacket h)) (15 ∷ [])
 abbrev pub bySize : PduHeader → ℕ → ℕ
 bySize h size = (size - leastPacket h) / pairSize (h .file)
 
--- the smaller of two numbers
-abbrev pub smaller : ℕ → ℕ → ℕ
-smaller a b = if ltb b a then b else a
-
 -- '3, 4, 14', since C-05 21, '15' (13 is given where a record is built, C-12); otherwise 'the smaller of that rule and 8,190 or 4,094'
 unfoldable pub mostRequests : PduHeader → ℕ → Answer ℕ
-mostRequests h size = firstOf (directiveTests h ++ (packetTooSmall h size ∷ [])) (smaller (bySize h size) (mostPairs (h .file)))
+mostRequests h size = firstOf (directiveTests h ++ (packetTooSmall h size ∷ [])) (min (bySize h size) (mostPairs (h .file)))
 
 -- ---- what is proved of it
 
