@@ -130,6 +130,16 @@ fn checksums() {
     vector(annex, &[0x00, 0x00, 0x00]);
     vector(annex, &[0xAB, 0xCD, 0xEF, 0x01]);
     vector(annex, &[0x14, 0x56, 0xF8, 0x9A, 0x00, 0x01]);
+    // The published ones are short; from 64 bytes on the checksum goes by the table.
+    let python = b"Python's binascii.crc_hqx from 0xFFFF";
+    vector(
+        python,
+        b"0123456789ABCDEF0123456789ABCDEF0123456789ABCDEF0123456789ABCDE",
+    );
+    vector(
+        python,
+        b"0123456789ABCDEF0123456789ABCDEF0123456789ABCDEF0123456789ABCDEF",
+    );
 }
 
 fn readings() {

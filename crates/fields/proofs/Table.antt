@@ -1,7 +1,7 @@
 -- The checksum a byte at a time: the eight bits of a byte are one entry of the table, since what stands in the register's lower byte goes up by itself.
 -- Assumes nothing.
-use mathlib.Core.Path.{_≡_, sym, ap, _∙_}
-use mathlib.Core.List.{List}
+use mathlib.Core.Path.{_≡_, refl, sym, ap, _∙_}
+use mathlib.Core.List.{List, [], _∷_}
 use Prim.Native.Nat.{ℕ, zero, suc, _+_, _*_, _/_, _%_, _^_, _<_}
 use native.Mathlib.Nat.{div-add-mod', add-zero, zero-add}
 use native.Mathlib.Omega.{arith}
@@ -11,16 +11,30 @@ use Rattle.fields.specs.Checksum.{bitSteps, byteStep, checksumFrom, entr
 use Rattle.fields.proofs.Xor.{xor-upper}
 use Rattle.fields.proofs.Checksum.{bits-lt, bits-xor, checksum-turn}
 
--- ---- the rule of the table, carried to each entry
+-- ---- a rule that was computed for all numbers below n, carried to each of them
 
-entries-from : (n i k : ℕ) → k < n → getD (entries n i) k 0 ≡ entry (i + k)
-unfolding entries
-entries-from zero i k h = absurd (omega arith)
-entries-from (suc n) i zero h = ap entry (sym (add-zero i))
-entries-from (suc n) i (suc k) h = entries-from n (suc i) k (omega arith) ∙ ap entry (omega arith)
+-- the values of f at the n numbers from i on
+abbrev values : (ℕ → ℕ) → ℕ → ℕ → List ℕ
+values f zero i = []
+values f (suc n) i = f i ∷ values f n (suc i)
+
+values-from : (f : ℕ → ℕ) (n i k : ℕ) → k < n → getD (values f n i) k 0 ≡ f (i + k)
+values-from f zero i k h = absurd (omega arith)
+values-from f (suc n) i zero h = ap f (sym (add-zero i))
+values-from f (suc n) i (suc k) h = values-from f n (suc i) k (omega arith) ∙ ap f (omega arith)
+
+value-at : (f : ℕ → ℕ) (n : ℕ) (t : List ℕ) → t ≡ values f n 0 → (k : ℕ) → k < n → getD t k 0 ≡ f k
+value-at f n t p k h = ap (λ (l : List ℕ). getD l k 0) p ∙ values-from f n 0 k h ∙ ap f (zero-add k)
+
+-- two rules whose values below n are the same agree at each number below n
+pub agree-at : (f g : ℕ → ℕ) (n : ℕ) → values f n 0 ≡ values g n 0 → (k : ℕ) → k < n → f k ≡ g k
+agree-at f g n p k h = sym (value-at f n (values f n 0) refl k h) ∙ value-at g n (values f n 0) p k h
+
+-- ---- the entries
 
 pub entries-at : (t : List ℕ) (k : ℕ) → t ≡ entries 256 0 → k < 256 → getD t k 0 ≡ entry k
-entries-at t k p h = ap (λ (l : List ℕ). getD l k 0) p ∙ entries-from 256 0 k h ∙ ap entry (zero-add k)
+unfolding entries
+entries-at t k p h = value-at entry 256 t p k h
 
 pub entries-lt : (t : List ℕ) (k : ℕ) → t ≡ entries 256 0 → k < 256 → getD t k 0 < 2 ^ 16
 unfolding entry
@@ -41,7 +55,7 @@ by-entry u l b h =
     ∙ ap (λ (x : ℕ). bitXor x (l * 256)) (sym (div-add-mod' e 256))
     ∙ xor-upper (e / 256) l (e % 256) (omega arith)
 
--- a turn of the loop: u and l are the register's bytes, e the entry that was looked up
+-- a turn of the loop: u and l are the register's bytes, e is the entry, looked up or worked out
 pub table-turn : (u l : ℕ) (s : List ℕ) (i e : ℕ) → l < 256 → i < length s → e ≡ entry (bitXor u (getD s i 0))
     → checksumFrom (bitXor (e / 256) l * 256 + e % 256) (drop (i + 1) s) ≡ checksumFrom (u * 256 + l) (drop i s)
 table-turn u l s i e h k p =

@@ -1,11 +1,15 @@
-// The checksum of a PDU, a byte at a time by a table of remainders (the Rust's `crc.rs`: CRC-16/IBM-3740; the standard's section 4.1).
+// The checksum of a PDU, a byte at a time by a table of remainders, which for few bytes are worked out (the Rust's `crc.rs`:
+// CRC-16/IBM-3740; the standard's section 4.1).
 ghost use mathlib.Core.Path.{_≡_};
-ghost use Prim.Native.Nat.{_<_};
+ghost use Prim.Native.Nat.{_/_, _%_, _<_};
 ghost use lib.Bits.{bitXor};
-ghost use Rattle.fields.specs.Checksum.{entries, checksumOf};
+ghost use Rattle.fields.specs.Checksum.{entry, entries, checksumOf};
 
 // The register before the first byte.
 const START: usize = 0xFFFF;
+
+// Below so many bytes an entry is worked out and not looked up: for a look-up all of the table is copied first.
+const TABLE_FROM: usize = 64;
 
 // The 256 entries of the table: entry i is the remainder that eight single-bit steps give for i in the upper byte.
 pub fn table() -> [u16; 256]
@@ -22,9 +26,42 @@ fn index(upper: usize, byte: u8) -> usize
     upper ^ byte as usize
 }
 
-// The checksum of all bytes of `s`. The register goes as its two bytes, each as wide as an index: from an entry to the next index
+// The upper byte of an entry, worked out: `x` is the quotient by the generator, so that the entry, which is the remainder, is the
+// lower sixteen bits of `(x << 12) ^ (x << 5) ^ x`.
+fn upper_of(i: u8) -> u8
+    ensures { λ r. ⌜ r ≡ entry i / 256 ⌝ }
+{
+    let x = i ^ (i >> 4);
+    (x >> 3) ^ (x << 4)
+}
+
+// Its lower byte.
+fn lower_of(i: u8) -> u8
+    ensures { λ r. ⌜ r ≡ entry i % 256 ⌝ }
+{
+    let x = i ^ (i >> 4);
+    (x << 5) ^ x
+}
+
+// The checksum of all bytes of `s`, each entry worked out.
+fn worked_out(s: &[u8]) -> u16
+    ensures { λ r. ⌜ r ≡ checksumOf (now (s .entry)) ⌝ }
+{
+    let mut upper = (START / 256) as u8;
+    let mut lower = (START % 256) as u8;
+    let mut i = 0;
+    while i < s.len() {
+        let k = upper ^ s[i];
+        upper = upper_of(k) ^ lower;
+        lower = lower_of(k);
+        i += 1;
+    }
+    upper as u16 * 256 + lower as u16
+}
+
+// The same, each entry looked up. The register goes as its two bytes, each as wide as an index: from an entry to the next index
 // it is then one shift and one exclusive or.
-pub fn checksum(s: &[u8]) -> u16
+fn by_table(s: &[u8]) -> u16
     ensures { λ r. ⌜ r ≡ checksumOf (now (s .entry)) ⌝ }
 {
     let entries = table();
@@ -38,6 +75,16 @@ pub fn checksum(s: &[u8]) -> u16
         i += 1;
     }
     (upper * 256 + lower) as u16
+}
+
+// The checksum of all bytes of `s`.
+pub fn checksum(s: &[u8]) -> u16
+    ensures { λ r. ⌜ r ≡ checksumOf (now (s .entry)) ⌝ }
+{
+    if s.len() < TABLE_FROM {
+        return worked_out(s);
+    }
+    by_table(s)
 }
 
 const TABLE: [u16; 256] = [

@@ -1,4 +1,4 @@
--- `fields::crc::checksum` meets its contract. The loop's invariant: the register, which is the two bytes, and the bytes that are left give the checksum of the whole.
+-- `fields::crc::by_table` meets its contract. The loop's invariant: the register, which is the two bytes, and the bytes that are left give the checksum of the whole.
 -- Assumes nothing.
 use mathlib.Core.Path.{_≡_, refl, sym, ap, _∙_}
 use Prim.Native.Nat.{_+_, _*_, _≤_, _<_, _-_}
@@ -8,8 +8,8 @@ use lib.ListN.{length, drop}
 use Rattle.fields.specs.Checksum.{checksumFrom, checksumOf, entry}
 use Rattle.fields.proofs.Checksum.{checksum-done}
 use Rattle.fields.proofs.Table.{entries-at, entries-lt, upper-lt, table-turn}
-use Rattle.fields.proofs.crc.checksum.Statement.{statement}
-use Rattle.fields.proofs.crc.checksum.Tie as tie
+use Rattle.fields.proofs.crc.by_table.Statement.{statement}
+use Rattle.fields.proofs.crc.by_table.Tie as tie
 
 abbrev Inv-loop : tie.InvT-loop
 Inv-loop s entries upper₀ lower₀ i₀ upper lower i =
@@ -69,8 +69,8 @@ cast-result c = search needs
 returns : tie.Need-returns Inv-loop μ-loop
 returns c = sym (checksum-done _ _ _ (c .loop-test .left)) ∙ c .before .loop .inv .3
 
-pub checksum-spec : {M : Type 1} → statement M
-checksum-spec =
+pub by-table-spec : {M : Type 1} → statement M
+by-table-spec =
     tie.close
     (tie.spec
     Inv-loop
