@@ -19,7 +19,7 @@ use Rattle.nak.specs.declared.requests.NextRequest.the-variants.{Pair, End}
 use Rattle.nak.specs.Nak.{offsetWidth, pairSize}
 use Rattle.nak.specs.Requests.{pairsFrom, pairsOf, nextRequest}
 use Rattle.nak.specs.Cases.{flat}
-use Rattle.nak.proofs.Parts.{number-part}
+use Rattle.fields.proofs.Parts.{number-part}
 use Rattle.nak.proofs.Walking.{pairs-count}
 use Rattle.cfdp_nak.specs.declared.read.Found.{Found}
 use Rattle.cfdp_nak.specs.Pairs.{pairsIn, isPair, pairAt}

@@ -3,6 +3,7 @@ pub mod Xor
 pub mod Checksum
 pub mod Table
 pub mod BigEndian
+pub mod Parts
 pub mod Width
 pub mod OneToOne
 pub mod Judging

@@ -29,13 +29,13 @@ run-bind (need n next) f s = go (ltb (length s) n) (run-bind (next (take n s)) f
     go false e = e
 
 -- a refusal stands before whatever is accepted at the end
-pub told-before : {A B : Type 0} (ns : List ℕ) (r : Staged A) (b : B) (s : List ℕ) → told ns ≡ run (r >> accept b) s → told ns ≡ run r s
-told-before ns (accept a) b s e = absurd (told-no ns b e)
-told-before ns (refuseIf true ms r) b s e = told-as ns ms e
-told-before ns (refuseIf false ms r) b s e = told-before ns r b s e
-told-before ns (need n next) b s e = go (ltb (length s) n) e (λ d. told-before ns (next (take n s)) b s d)
+pub told-before : {A B : Type 0} (ns : List ℕ) (r : Staged A) (f : A → B) (s : List ℕ) → told ns ≡ run (r >>= λ a. accept (f a)) s → told ns ≡ run r s
+told-before ns (accept a) f s e = absurd (told-no ns (f a) e)
+told-before ns (refuseIf true ms r) f s e = told-as ns ms e
+told-before ns (refuseIf false ms r) f s e = told-before ns r f s e
+told-before ns (need n next) f s e = go (ltb (length s) n) e (λ d. told-before ns (next (take n s)) f s d)
   where
-    go : (c : Bool) → told ns ≡ (if c then short (length s) n else run (next (take n s) >> accept b) s) → (told ns ≡ run (next (take n s) >> accept b) s → told ns ≡ run (next (take n s)) s)
+    go : (c : Bool) → told ns ≡ (if c then short (length s) n else run (next (take n s) >>= λ a. accept (f a)) s) → (told ns ≡ run (next (take n s) >>= λ a. accept (f a)) s → told ns ≡ run (next (take n s)) s)
         → told ns ≡ (if c then short (length s) n else run (next (take n s)) s)
     go true d rest = told-short ns (length s) n d
     go false d rest = rest d

@@ -14,26 +14,31 @@ use Rattle.fields.specs.Choice.{if_then_else_}
 use Rattle.fields.specs.Width.{isWidth}
 use Rattle.fields.specs.BigEndian.{Bytes}
 use Rattle.fields.specs.Answer.{Answer, accepted, refused, firstOf, leaves}
-use Rattle.fields.specs.Staged.{run}
+use Rattle.fields.specs.Staged.{accept, run, _>>=_}
 use Rattle.fields.specs.Demand3.{AtMost}
 use Rattle.fields.proofs.Width.{lt-fits}
 use Rattle.fields.proofs.BigEndian.{bytes-take, number-lt}
 use Rattle.fields.proofs.Judging.{Passed, NoneSays, said-behind}
-use Rattle.fields.proofs.Staged.{passed-all, demand3}
+use Rattle.fields.proofs.Staged.{passed-all, at-most-bind, demand3}
 use Rattle.fields.proofs.OneToOne.{answerBack, told-back, one-to-one}
 use Rattle.header.specs.declared.PduHeader.{PduHeader}
 use Rattle.header.specs.declared.HeaderResult.{HeaderResult}
 use Rattle.header.specs.declared.HeaderResult.the-variants.{Header, Refused}
 use Rattle.header.specs.declared.LengthResult.{LengthResult}
 use Rattle.header.specs.declared.LengthResult.the-variants.{Length, Refused as NoLength}
-use Rattle.header.specs.Answers.{headerAnswer, lengthAnswer}
-use Rattle.header.specs.Header.{headerLength, headerBytes}
+use Rattle.header.specs.declared.directive.DirectivePdu.{DirectivePdu}
+use Rattle.header.specs.declared.directive.DirectiveResult.{DirectiveResult}
+use Rattle.header.specs.declared.directive.DirectiveResult.the-variants.{Directive, Refused as NoDirective}
+use Rattle.header.specs.Answers.{headerAnswer, lengthAnswer, directiveAnswer}
+use Rattle.header.specs.Header.{headerLength, dataEnd, headerBytes}
 use Rattle.header.specs.Judging.{recordTests, judging}
 use Rattle.header.specs.Reading.{entityWidthIn, sequenceWidthIn, headerLengthIn, headerIn, readingHeader}
+use Rattle.header.specs.Directive.{directiveBytes, verifyingDirective, readingDirectivePdu}
 use Rattle.header.specs.Writing.{outputTests, writingHeader, headerMemory}
-use Rattle.header.specs.Demands.{HeaderReadsBack, MemoryReadsBack, ReadIsSound, NamedNeedIsEnough, HeaderDemand3, OneHeaderResult, OneLengthResult}
+use Rattle.header.specs.Demands.{HeaderReadsBack, MemoryReadsBack, ReadIsSound, NamedNeedIsEnough, HeaderDemand3, DirectiveDemand3, OneHeaderResult, OneLengthResult, OneDirectiveResult}
 use Rattle.header.proofs.Judging.{sound, all-right}
 use Rattle.header.proofs.Writing.{enough, written-passed}
+use Rattle.header.proofs.Directives.{directive-two}
 use Rattle.header.proofs.RoundTrip.{reads-back}
 
 -- ---- one answer
@@ -52,6 +57,13 @@ length-result-back (NoLength r) = told-back Length NoLength r
 pub one-length-result : OneLengthResult
 one-length-result = one-to-one lengthAnswer (answerBack Length NoLength) length-result-back
 
+directive-back : (r : DirectiveResult) → answerBack Directive NoDirective (directiveAnswer r) ≡ r
+directive-back (Directive d) = refl
+directive-back (NoDirective r) = told-back Directive NoDirective r
+
+pub one-directive-result : OneDirectiveResult
+one-directive-result = one-to-one directiveAnswer (answerBack Directive NoDirective) directive-back
+
 -- ---- demand 3
 
 pub header-two : AtMost readingHeader 2
@@ -60,6 +72,15 @@ header-two = λ _ _. tt
 
 pub header-demand3 : HeaderDemand3
 header-demand3 = demand3 (run readingHeader) 2 readingHeader header-two (λ s. refl)
+
+directive-four : AtMost readingDirectivePdu 4
+unfolding readingDirectivePdu verifyingDirective
+directive-four =
+    at-most-bind readingHeader (λ h. verifyingDirective h >>= λ end. accept (record { header = h; end = end })) 2 2 header-two
+    (λ h. at-most-bind (verifyingDirective h) (λ end. accept (record { header = h; end = end })) 2 0 (at-most-bind (directiveBytes h) (λ _. accept (dataEnd h)) 2 0 (directive-two h) (λ _. tt)) (λ _. tt))
+
+pub directive-demand3 : DirectiveDemand3
+directive-demand3 = demand3 (run readingDirectivePdu) 4 readingDirectivePdu directive-four (λ s. refl)
 
 -- ---- demand 2: what is written reads back
 

@@ -1,24 +1,26 @@
 -- Directive PDUs: the answer at each exit, and what a PDU that was verified and a record that passed are known to be.
 -- Assumes nothing.
 use Prim.Native.Nat.{ℕ, _+_, _≤_, _<_}
-use mathlib.Core.Path.{_≡_, sym, ap, _∙_}
+use mathlib.Core.Path.{_≡_, refl, sym, ap, _∙_}
 use mathlib.Core.List.{List, [], _∷_, _++_}
 use lib.ListN.{length, take}
 use borrow.Author.Tests.{lt-ltb, le-ltb, ltb-false}
-use Rattle.fields.specs.Answer.{Answer, accepted, told, andThen, Test, firstOf}
-use Rattle.fields.specs.Staged.{run}
+use Rattle.fields.specs.Answer.{Answer, accepted, short, refused, told, andThen, Test, firstOf}
+use Rattle.fields.specs.Staged.{Staged, accept, run, _>>=_}
 use Rattle.fields.specs.Demand3.{AtMost}
-use Rattle.fields.proofs.Judging.{Passed, passed, passed-first, passed-last, passed-on, refused-on, told-on}
-use Rattle.fields.proofs.Staged.{run-bind, passed-all, told-before, at-most-bind}
+use Rattle.fields.proofs.Judging.{Passed, same-accepted, passed, passed-first, passed-last, passed-on, told-as, told-short, refused-on, told-on}
+use Rattle.fields.proofs.Staged.{run-bind, told-before, both, passed-all, at-most-bind}
 use Rattle.header.specs.declared.PduHeader.{PduHeader}
+use Rattle.header.specs.declared.directive.DirectivePdu.{DirectivePdu}
 use Rattle.header.specs.declared.flags.PduType.the-variants.{FileDirective, FileData}
 use Rattle.header.specs.declared.flags.Direction.{Direction}
 use Rattle.header.specs.declared.flags.LargeFileFlag.{LargeFileFlag}
 use Rattle.header.specs.Flags.{pduTypeBit, pduTypeIf}
 use Rattle.header.specs.Header.{headerLength, pduLength, dataEnd, withDirection, withFileFlag, withLength}
 use Rattle.header.specs.Judging.{recordTests, judging}
+use Rattle.header.specs.Reading.{readingHeader}
 use Rattle.header.specs.Verifying.{pduBytes, verifyingRead}
-use Rattle.header.specs.Directive.{notADirective, directivePart, directiveBytes, verifyingDirective, directiveTests, judgingDirective}
+use Rattle.header.specs.Directive.{notADirective, directivePart, directiveBytes, verifyingDirective, readingDirectivePdu, directiveTests, judgingDirective}
 use Rattle.header.proofs.FlagBits.{pduType-back}
 use Rattle.header.proofs.Judging.{with-tests, refused-first}
 use Rattle.header.proofs.Verifying.{Verified, verified-refused, pdu-one}
@@ -65,6 +67,27 @@ module _ (h : PduHeader) (s : List ℕ) where
           unfolding directivePart
           code-there l = rw (rest, ← v .end-is, ← pa, le-ltb _ _ long, le-ltb _ _ e9, ap pduTypeBit kind, le-ltb _ _ l)
 
+-- ---- reading a PDU up to its code: the header's refusal, the verification's, or both parts
+
+abbrev on : PduHeader → Staged DirectivePdu
+on h = verifyingDirective h >>= λ end. accept (record { header = h; end = end })
+
+module _ (s : List ℕ) where
+  pub no-header : (ns : List ℕ) → told ns ≡ run readingHeader s → told ns ≡ run readingDirectivePdu s
+  unfolding readingDirectivePdu
+  no-header ns e = sym (run-bind readingHeader on s ∙ ap (λ (o : Answer PduHeader). andThen o (λ h. run (on h) s)) (sym e) ∙ told-on ns (λ h. run (on h) s))
+
+  module _ (h : PduHeader) (e : accepted h ≡ run readingHeader s) where
+    behind : run readingDirectivePdu s ≡ andThen (run (verifyingDirective h) s) (λ end. accepted (record { header = h; end = end }))
+    unfolding readingDirectivePdu
+    behind = run-bind readingHeader on s ∙ ap (λ (o : Answer PduHeader). andThen o (λ h. run (on h) s)) (sym e) ∙ run-bind (verifyingDirective h) (λ end. accept (record { header = h; end = end })) s
+
+    pub not-verified : (ns : List ℕ) → told ns ≡ run (verifyingDirective h) s → told ns ≡ run readingDirectivePdu s
+    not-verified ns d = sym (behind ∙ ap (λ (o : Answer ℕ). andThen o (λ end. accepted (record { header = h; end = end }))) (sym d) ∙ told-on ns (λ end. accepted (record { header = h; end = end })))
+
+    pub directive-read : (end : ℕ) → accepted end ≡ run (verifyingDirective h) s → accepted (record { header = h; end = end }) ≡ run readingDirectivePdu s
+    directive-read end d = sym (behind ∙ ap (λ (o : Answer ℕ). andThen o (λ end. accepted (record { header = h; end = end }))) (sym d))
+
 -- ---- for the readers above
 
 pub record VerifiedDirective (h : PduHeader) (s : List ℕ) (end : ℕ) : Type 0 where
@@ -87,7 +110,37 @@ verified-directive h s end e =
 
 pub directive-refused : (h : PduHeader) (s ns : List ℕ) → told ns ≡ run (verifyingDirective h) s → told ns ≡ run (directiveBytes h) s
 unfolding verifyingDirective
-directive-refused h s ns e = told-before ns (directiveBytes h) (dataEnd h) s e
+directive-refused h s ns e = told-before ns (directiveBytes h) (λ _. dataEnd h) s e
+
+-- so a reader that goes on behind the bytes of a directive PDU refuses what the PDU is refused with, and behind one that was read its own stages decide
+module _ {A : Type 0} (k : PduHeader → List ℕ → Staged A) (s : List ℕ) where
+  abbrev next : PduHeader → Staged A
+  next h = directiveBytes h >>= k h
+
+  from-header : (o : Answer PduHeader) → run readingHeader s ≡ o → run (readingHeader >>= next) s ≡ andThen o (λ h. run (next h) s)
+  from-header o p = run-bind readingHeader next s ∙ ap (λ (o : Answer PduHeader). andThen o (λ h. run (next h) s)) p
+
+  pub pdu-refused : (ns : List ℕ) → told ns ≡ run readingDirectivePdu s → told ns ≡ run (readingHeader >>= λ h. directiveBytes h >>= k h) s
+  unfolding readingDirectivePdu
+  pdu-refused ns e = go (run readingHeader s) refl (e ∙ run-bind readingHeader on s)
+    where
+      go : (o : Answer PduHeader) → run readingHeader s ≡ o → told ns ≡ andThen o (λ h. run (on h) s) → told ns ≡ run (readingHeader >>= next) s
+      go (accepted h) p d =
+          let b : told ns ≡ run (directiveBytes h) s = directive-refused h s ns (told-before ns (verifyingDirective h) (λ end. record { header = h; end = end }) s d) in
+          sym (from-header (accepted h) p ∙ run-bind (directiveBytes h) (k h) s ∙ ap (λ (o : Answer (List ℕ)). andThen o (λ b. run (k h b) s)) (sym b) ∙ told-on ns (λ b. run (k h b) s))
+      go (short l n) p d = told-short ns l n d ∙ sym (from-header (short l n) p)
+      go (refused ms) p d = told-as ns ms d ∙ sym (from-header (refused ms) p)
+
+  pub pdu-read : (d : DirectivePdu) → accepted d ≡ run readingDirectivePdu s
+      → VerifiedDirective (d .header) s (d .end) × (run (k (d .header) (take (pduLength (d .header)) s)) s ≡ run (readingHeader >>= λ h. directiveBytes h >>= k h) s)
+  unfolding readingDirectivePdu
+  pdu-read d e =
+      let m = both readingHeader on s d (sym e) in
+      let h = m .mid in
+      let n = both (verifyingDirective h) (λ end. accept (record { header = h; end = end })) s d (m .second) in
+      let is : record { header = h; end = n .mid } ≡ d = same-accepted _ _ (n .second) in
+      let v : VerifiedDirective h s (n .mid) = verified-directive h s (n .mid) (sym (n .first)) in
+      rw (← is) (v, sym (from-header (accepted h) (m .first) ∙ run-bind (directiveBytes h) (k h) s ∙ ap (λ (o : Answer (List ℕ)). andThen o (λ b. run (k h b) s)) (v .bytes-are)))
 
 -- a directive PDU asks twice for bytes, and what it hands on are its first P bytes
 pub directive-two : (h : PduHeader) → AtMost (directiveBytes h) 2
@@ -132,6 +185,10 @@ refused-directive h us a ns e = refused-on ns (directiveTests h) us (headerLengt
 pub passed-directive : (h : PduHeader) (n : ℕ) → accepted n ≡ judgingDirective h → Passed (directiveTests h)
 unfolding judgingDirective
 passed-directive h n e = passed (directiveTests h) n (headerLength h) e .0
+
+pub directive-length : (h : PduHeader) (n : ℕ) → accepted n ≡ judgingDirective h → n ≡ headerLength h
+unfolding judgingDirective
+directive-length h n e = passed (directiveTests h) n (headerLength h) e .1
 
 -- so it is a record that passed, of PDU type 0
 pub directive-good : (h : PduHeader) → Passed (directiveTests h) → Passed (recordTests h)

@@ -1,13 +1,13 @@
 -- Reading a header: its answer at each exit, and a header made of its parts.
 -- Assumes nothing.
-use Prim.Native.Nat.{ℕ, _+_, _≤_, _<_}
-use mathlib.Core.Path.{_≡_, sym, _∙_}
+use Prim.Native.Nat.{ℕ, _+_, _-_, _≤_, _<_}
+use mathlib.Core.Path.{_≡_, refl, sym, _∙_}
 use mathlib.Core.Bool.{Bool, true, false}
 use mathlib.Core.List.{List, [], _∷_}
 use native.Mathlib.Omega.{arith}
 use native.Mathlib.Nat.{le-of-eq}
 use lib.Dec.{lit<}
-use lib.ListN.{length, getD, take}
+use lib.ListN.{length, getD, take, drop}
 use lib.Seq.{getD-take, length-take-le}
 use borrow.Author.Tests.{lt-ltb, le-ltb, eq-eqb, ne-eqb}
 use Rattle.fields.specs.declared.field.UnsignedByteField.{UnsignedByteField}
@@ -15,7 +15,7 @@ use Rattle.fields.specs.Width.{isWidth}
 use Rattle.fields.specs.BigEndian.{numberAt, beAt}
 use Rattle.fields.specs.Answer.{Answer, accepted, told}
 use Rattle.fields.specs.Staged.{run}
-use Rattle.fields.proofs.BigEndian.{at-number}
+use Rattle.fields.proofs.Parts.{part-read}
 use Rattle.header.specs.declared.PduHeader.{PduHeader}
 use Rattle.header.specs.declared.flags.PduType.{PduType}
 use Rattle.header.specs.declared.flags.Direction.{Direction}
@@ -65,8 +65,8 @@ holds s h p l =
 
 -- a header is made of its parts
 module _ (s : List ℕ) (long : headerLengthIn s ≤ length s) where
-  number-is : (at w x : ℕ) → x ≡ beAt s at w → w ≤ 8 → at + w ≤ length s → x ≡ numberAt s at w
-  number-is at w x p h k = p ∙ at-number s at w h k
+  number-is : (at w x : ℕ) → x ≡ beAt (take (at + w - at) (drop at s)) 0 w → w ≤ 8 → at + w ≤ length s → x ≡ numberAt s at w
+  number-is at w x p h k = p ∙ part-read s at w (at + w) refl h k
 
   pub header-is : (kind : PduType) (direction : Direction) (mode : TransmissionMode) (crc : CrcFlag) (file : LargeFileFlag) (control : SegmentationControl) (metadata : SegmentMetadataFlag)
       (d e q x y z : ℕ) (i : UnsignedByteField)
@@ -79,10 +79,10 @@ module _ (s : List ℕ) (long : headerLengthIn s ≤ length s) where
       → metadata ≡ metadataIf (isSet (getD s 3 0) 8)
       → e ≡ entityWidthIn s
       → q ≡ sequenceWidthIn s
-      → d ≡ beAt s 1 2
-      → x ≡ beAt s 4 e
-      → y ≡ beAt s (4 + e) q
-      → z ≡ beAt s (4 + e + q) e
+      → d ≡ beAt (take (1 + 2 - 1) (drop 1 s)) 0 2
+      → x ≡ beAt (take (4 + e - 4) (drop 4 s)) 0 e
+      → y ≡ beAt (take (4 + e + q - (4 + e)) (drop (4 + e) s)) 0 q
+      → z ≡ beAt (take (4 + e + q + e - (4 + e + q)) (drop (4 + e + q) s)) 0 e
       → i ≡ record { width = q; value = y }
       → record { kind = kind; direction = direction; mode = mode; crc = crc; file = file; length = d; control = control; width = e; metadata = metadata; source = record { 0 = x }; sequence = record { 0 = i }; destination = record { 0 = z } } ≡ headerIn s
   unfolding headerIn

@@ -80,7 +80,7 @@ verified h s end e =
 
 pub verified-refused : (h : PduHeader) (s ns : List ℕ) → told ns ≡ run (verifyingRead h) s → told ns ≡ run (pduBytes h) s
 unfolding verifyingRead
-verified-refused h s ns e = told-before ns (pduBytes h) (dataEnd h) s e
+verified-refused h s ns e = told-before ns (pduBytes h) (λ _. dataEnd h) s e
 
 -- the data ends within the PDU
 pub end-le : (h : PduHeader) → dataEnd h ≤ pduLength h

@@ -7,6 +7,9 @@ use Rattle.header.specs.declared.HeaderResult.{HeaderResult}
 use Rattle.header.specs.declared.HeaderResult.the-variants.{Header, Refused}
 use Rattle.header.specs.declared.LengthResult.{LengthResult}
 use Rattle.header.specs.declared.LengthResult.the-variants.{Length, Refused as NoLength}
+use Rattle.header.specs.declared.directive.DirectivePdu.{DirectivePdu}
+use Rattle.header.specs.declared.directive.DirectiveResult.{DirectiveResult}
+use Rattle.header.specs.declared.directive.DirectiveResult.the-variants.{Directive, Refused as NoDirective}
 
 abbrev pub headerAnswer : HeaderResult → Answer PduHeader
 headerAnswer (Header h) = accepted h
@@ -15,3 +18,7 @@ headerAnswer (Refused r) = told (paper r)
 abbrev pub lengthAnswer : LengthResult → Answer ℕ
 lengthAnswer (Length n) = accepted n
 lengthAnswer (NoLength r) = told (paper r)
+
+abbrev pub directiveAnswer : DirectiveResult → Answer DirectivePdu
+directiveAnswer (Directive d) = accepted d
+directiveAnswer (NoDirective r) = told (paper r)

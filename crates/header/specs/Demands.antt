@@ -11,11 +11,13 @@ use Rattle.fields.specs.Demand3.{Demand3}
 use Rattle.header.specs.declared.PduHeader.{PduHeader}
 use Rattle.header.specs.declared.HeaderResult.{HeaderResult}
 use Rattle.header.specs.declared.LengthResult.{LengthResult}
+use Rattle.header.specs.declared.directive.DirectiveResult.{DirectiveResult}
 use Rattle.header.specs.Header.{headerBytes}
-use Rattle.header.specs.Answers.{headerAnswer, lengthAnswer}
+use Rattle.header.specs.Answers.{headerAnswer, lengthAnswer, directiveAnswer}
 use Rattle.header.specs.Judging.{judging}
 use Rattle.header.specs.Reading.{readingHeader}
 use Rattle.header.specs.Writing.{writingHeader, headerMemory}
+use Rattle.header.specs.Directive.{readingDirectivePdu}
 use Rattle.header.specs.Comparing.{sameHeader}
 
 -- DEMAND 2: what is written, followed by anything, reads back as the same header
@@ -55,9 +57,16 @@ SameHeaderShares = (a b : PduHeader) → sameHeader a b ≡ true → SameFields 
 abbrev pub HeaderDemand3 : Type 0
 HeaderDemand3 = Demand3 (run readingHeader) 2
 
+-- DEMAND 3: of a directive PDU up to its code, at most four
+abbrev pub DirectiveDemand3 : Type 0
+DirectiveDemand3 = Demand3 (run readingDirectivePdu) 4
+
 -- 'How much each promise says': the answers leave one value
 abbrev pub OneHeaderResult : Type 0
 OneHeaderResult = (a b : HeaderResult) → headerAnswer a ≡ headerAnswer b → a ≡ b
 
 abbrev pub OneLengthResult : Type 0
 OneLengthResult = (a b : LengthResult) → lengthAnswer a ≡ lengthAnswer b → a ≡ b
+
+abbrev pub OneDirectiveResult : Type 0
+OneDirectiveResult = (a b : DirectiveResult) → directiveAnswer a ≡ directiveAnswer b → a ≡ b

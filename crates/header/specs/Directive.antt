@@ -5,9 +5,11 @@ use lib.Dec.{eqb, ltb}
 use Rattle.fields.specs.Answer.{Answer, Test, when, firstOf}
 use Rattle.fields.specs.Staged.{Staged, accept, _>>=_, _>>_, bytes, test}
 use Rattle.header.specs.declared.PduHeader.{PduHeader}
+use Rattle.header.specs.declared.directive.DirectivePdu.{DirectivePdu}
 use Rattle.header.specs.Flags.{pduTypeBit}
 use Rattle.header.specs.Header.{headerLength, dataEnd}
 use Rattle.header.specs.Judging.{recordTests}
+use Rattle.header.specs.Reading.{readingHeader}
 use Rattle.header.specs.Verifying.{pduBytes}
 
 -- 21: not a directive
@@ -40,6 +42,13 @@ directiveBytes h = pduBytes h >>= directivePart h
 -- of a header that was read: those, else E
 unfoldable pub verifyingDirective : PduHeader → Staged ℕ
 verifyingDirective h = directiveBytes h >> accept (dataEnd h)
+
+-- a directive PDU up to its code: the header, and then those
+unfoldable pub readingDirectivePdu : Staged DirectivePdu
+readingDirectivePdu = do
+  h ← readingHeader
+  end ← verifyingDirective h
+  accept (record { header = h; end = end })
 
 -- ---- writing
 

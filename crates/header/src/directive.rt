@@ -1,12 +1,14 @@
 // What all directive PDUs share: their reader's tests before the directive code, and their writer's judgement of a record. File data, PDU type 1, is refusal 21.
 ghost use mathlib.Core.Path.{_≡_};
 ghost use Rattle.fields.specs.Staged.{run};
-ghost use Rattle.header.specs.Answers.{lengthAnswer};
-ghost use Rattle.header.specs.Directive.{verifyingDirective, judgingDirective};
+ghost use Rattle.header.specs.Answers.{lengthAnswer, directiveAnswer};
+ghost use Rattle.header.specs.Directive.{verifyingDirective, readingDirectivePdu, judgingDirective};
 use crate::HeaderResult;
 use crate::LengthResult;
 use crate::PduHeader;
 use crate::PduType;
+use crate::read::header_in;
+use crate::read::length_in;
 use fields::Refusal;
 
 // A directive code and a normal scope: the fewest bytes that the Rust asks for.
@@ -18,10 +20,45 @@ fn data_short(end: usize, expected: usize) -> LengthResult
     LengthResult::Refused(Refusal::DataFieldTooSmall { end, expected })
 }
 
+// A directive PDU up to its code: its header, and E, where its data ends.
+pub struct DirectivePdu {
+    pub header: PduHeader,
+    pub end: usize,
+}
+
+// A directive PDU, or why there is none.
+pub enum DirectiveResult {
+    Directive(DirectivePdu),
+    Refused(Refusal),
+}
+
+impl DirectivePdu {
+    // What follows the PDU is not looked at. The header is not read by `PduHeader::from_bytes`: from here its two functions become a part
+    // of the caller, and the record is not handed through memory.
+    pub fn from_bytes(buf: &[u8]) -> DirectiveResult
+        ensures { λ r. ⌜ directiveAnswer r ≡ run readingDirectivePdu (now (buf .entry)) ⌝ }
+    {
+        let length = length_in(buf);
+        match length {
+            LengthResult::Refused(refusal) => DirectiveResult::Refused(refusal),
+            LengthResult::Length(len) => {
+                let header = header_in(&buf[..len]);
+                let verified = header.verify_directive(buf);
+                match verified {
+                    LengthResult::Refused(refusal) => DirectiveResult::Refused(refusal),
+                    LengthResult::Length(end) => {
+                        DirectiveResult::Directive(DirectivePdu { header, end })
+                    }
+                }
+            }
+        }
+    }
+}
+
 impl PduHeader {
     // E: where the data ends, behind the directive code, of a header that was read. The checksum comes first: a damaged bit of the PDU type
     // is a checksum fault.
-    pub fn verify_directive(self, buf: &[u8]) -> LengthResult
+    fn verify_directive(self, buf: &[u8]) -> LengthResult
         ensures { λ r. ⌜ lengthAnswer r ≡ run (verifyingDirective self) (now (buf .entry)) ⌝ }
     {
         let verified = self.verify_read(buf);

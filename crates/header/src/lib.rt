@@ -26,31 +26,33 @@ pub use flags::TransmissionMode;
 // The bytes before the identifiers.
 pub const FIXED_HEADER_LEN: usize = 4;
 
-// All fields of a header, in the order of the link. The Rust's names stand beside those that differ.
+// All fields of a header. The Rust's names stand beside those that differ. Their order is that in memory, where a record shares its place
+// with a refusal (`HeaderResult`): the numbers of one lie over those of the other, and the flags behind them, so that a record is handed
+// on field by field and not in pieces that a read has to wait for.
 pub struct PduHeader {
     // pdu_type
     pub kind: PduType,
     pub direction: Direction,
+    // pdu_datafield_len
+    pub length: u16,
+    // source_entity_id
+    pub source: EntityId,
+    // dest_entity_id
+    pub destination: EntityId,
+    // transaction_seq_num
+    pub sequence: TransactionSeqNum,
     // trans_mode
     pub mode: TransmissionMode,
     // crc_flag
     pub crc: CrcFlag,
     // file_flag
     pub file: LargeFileFlag,
-    // pdu_datafield_len
-    pub length: u16,
     // seg_ctrl
     pub control: SegmentationControl,
-    // The bytes of each of the two entity identifiers.
-    pub width: u8,
     // seg_metadata_flag
     pub metadata: SegmentMetadataFlag,
-    // source_entity_id
-    pub source: EntityId,
-    // transaction_seq_num
-    pub sequence: TransactionSeqNum,
-    // dest_entity_id
-    pub destination: EntityId,
+    // The bytes of each of the two entity identifiers.
+    pub width: u8,
 }
 
 // A header, or why there is none.

@@ -5,11 +5,13 @@ ghost use lib.ListN.{length};
 ghost use Rattle.fields.specs.Staged.{run};
 ghost use Rattle.header.specs.Answers.{headerAnswer};
 ghost use Rattle.header.specs.Reading.{isSet, headerLengthIn, headerIn, readingHeader};
+ghost use Rattle.header.specs.Within.{Measured};
 use crate::CrcFlag;
 use crate::Direction;
 use crate::FIXED_HEADER_LEN;
 use crate::HeaderResult;
 use crate::LargeFileFlag;
+use crate::LengthResult;
 use crate::PduHeader;
 use crate::PduType;
 use crate::SegmentMetadataFlag;
@@ -47,8 +49,8 @@ fn width_at(byte: u8, k: u8) -> u8
     three_at(byte, k) + 1
 }
 
-// The header that stands in its bytes.
-fn header_in(s: &[u8]) -> PduHeader
+// The header that stands in its bytes. Each number is read from a part of just its bytes: so no test is left of a read.
+pub(crate) fn header_in(s: &[u8]) -> PduHeader
     requires { ⌜ headerLengthIn (now s) ≤ length (now s) ⌝ }
     ensures { λ r. ⌜ r ≡ headerIn (now (s .entry)) ⌝ }
 {
@@ -58,10 +60,12 @@ fn header_in(s: &[u8]) -> PduHeader
     let sequence = width_at(fourth, 0);
     let e = entity as usize;
     let q = sequence as usize;
-    let length = be::read_be(s, 1, 2) as u16;
-    let source_id = be::read_be(s, 4, e);
-    let number = be::read_be(s, 4 + e, q);
-    let destination_id = be::read_be(s, 4 + e + q, e);
+    let second = 4 + e;
+    let third = second + q;
+    let length = be::read_be(&s[1..3], 0, 2) as u16;
+    let source_id = be::read_be(&s[4..second], 0, e);
+    let number = be::read_be(&s[second..third], 0, q);
+    let destination_id = be::read_be(&s[third..third + e], 0, e);
     PduHeader {
         kind: PduType::from_bit(bit_at(first, 4)),
         direction: Direction::from_bit(bit_at(first, 3)),
@@ -78,10 +82,38 @@ fn header_in(s: &[u8]) -> PduHeader
     }
 }
 
-fn short(found: usize, expected: usize) -> HeaderResult
-    ensures { λ r. ⌜ r ≡ HeaderResult.Refused (Refusal.FromSliceTooSmall found expected) ⌝ }
+fn short(found: usize, expected: usize) -> LengthResult
+    ensures { λ r. ⌜ r ≡ LengthResult.Refused (Refusal.FromSliceTooSmall found expected) ⌝ }
 {
-    HeaderResult::Refused(Refusal::FromSliceTooSmall { found, expected })
+    LengthResult::Refused(Refusal::FromSliceTooSmall { found, expected })
+}
+
+// The bytes of the header at the front of the bytes, or why none is there.
+pub(crate) fn length_in(buf: &[u8]) -> LengthResult
+    ensures { λ r. ⌜ Measured r (now (buf .entry)) ⌝ }
+{
+    let n = buf.len();
+    if n < FIXED_HEADER_LEN {
+        return short(n, FIXED_HEADER_LEN);
+    }
+    let fixed = &buf[..FIXED_HEADER_LEN];
+    let version = three_at(fixed[0], 5);
+    if version != CFDP_VERSION_2 {
+        return LengthResult::Refused(Refusal::CfdpVersionMissmatch(version));
+    }
+    let entity = width_at(fixed[3], 4);
+    if !field::is_width(entity) {
+        return LengthResult::Refused(Refusal::InvalidEntityLen(entity));
+    }
+    let sequence = width_at(fixed[3], 0);
+    if !field::is_width(sequence) {
+        return LengthResult::Refused(Refusal::InvalidTransactionSeqNumLen(sequence));
+    }
+    let len = FIXED_HEADER_LEN + 2 * (entity as usize) + (sequence as usize);
+    if n < len {
+        return short(n, len);
+    }
+    LengthResult::Length(len)
 }
 
 impl PduHeader {
@@ -89,27 +121,10 @@ impl PduHeader {
     pub fn from_bytes(buf: &[u8]) -> HeaderResult
         ensures { λ r. ⌜ headerAnswer r ≡ run readingHeader (now (buf .entry)) ⌝ }
     {
-        let n = buf.len();
-        if n < FIXED_HEADER_LEN {
-            return short(n, FIXED_HEADER_LEN);
+        let length = length_in(buf);
+        match length {
+            LengthResult::Refused(refusal) => HeaderResult::Refused(refusal),
+            LengthResult::Length(len) => HeaderResult::Header(header_in(&buf[..len])),
         }
-        let fixed = &buf[..FIXED_HEADER_LEN];
-        let version = three_at(fixed[0], 5);
-        if version != CFDP_VERSION_2 {
-            return HeaderResult::Refused(Refusal::CfdpVersionMissmatch(version));
-        }
-        let entity = width_at(fixed[3], 4);
-        if !field::is_width(entity) {
-            return HeaderResult::Refused(Refusal::InvalidEntityLen(entity));
-        }
-        let sequence = width_at(fixed[3], 0);
-        if !field::is_width(sequence) {
-            return HeaderResult::Refused(Refusal::InvalidTransactionSeqNumLen(sequence));
-        }
-        let len = FIXED_HEADER_LEN + 2 * (entity as usize) + (sequence as usize);
-        if n < len {
-            return short(n, len);
-        }
-        HeaderResult::Header(header_in(&buf[..len]))
     }
 }

@@ -11,13 +11,13 @@ use borrow.Author.Tests.{lt-ltb, le-ltb}
 use Rattle.fields.specs.BigEndian.{numberAt}
 use Rattle.fields.specs.Answer.{Answer, accepted, told, andThen}
 use Rattle.fields.specs.Staged.{run}
-use Rattle.fields.proofs.Judging.{told-on}
 use Rattle.fields.proofs.Staged.{run-bind}
 use Rattle.header.specs.declared.PduHeader.{PduHeader}
+use Rattle.header.specs.declared.directive.DirectivePdu.{DirectivePdu}
 use Rattle.header.specs.Header.{headerLength, pduLength, dataEnd}
 use Rattle.header.specs.Reading.{readingHeader}
-use Rattle.header.specs.Directive.{directiveBytes, verifyingDirective}
-use Rattle.header.proofs.Directives.{VerifiedDirective, directive-refused}
+use Rattle.header.specs.Directive.{readingDirectivePdu}
+use Rattle.header.proofs.Directives.{VerifiedDirective, pdu-refused, pdu-read}
 use Rattle.nak.specs.declared.Nak.{Nak}
 use Rattle.nak.specs.Directive.{isKnown}
 use Rattle.nak.specs.Nak.{offsetWidth, areaStart, nakIn}
@@ -64,20 +64,14 @@ module _ (h : PduHeader) (p s : List ℕ) (a c : ℕ) (pa : a ≡ headerLength h
 
 -- ---- what the layer below refuses is refused, and behind what it accepts the next stages decide
 
-pub refused-data : (h : PduHeader) (s ns : List ℕ) → told ns ≡ run (verifyingDirective h) s → told ns ≡ run (readingData h) s
-unfolding readingData
-refused-data h s ns e =
-    sym (run-bind (directiveBytes h) (readingDirective h) s ∙ ap (λ o. andThen o (λ p. run (readingDirective h p) s)) (sym (directive-refused h s ns e)) ∙ told-on ns (λ p. run (readingDirective h p) s))
+pub refused-pdu : (s ns : List ℕ) → told ns ≡ run readingDirectivePdu s → told ns ≡ run readingNak s
+unfolding readingNak readingData
+refused-pdu s ns e = pdu-refused readingDirective s ns e
 
-pub verified-data : (h : PduHeader) (s : List ℕ) (end : ℕ) → VerifiedDirective h s end → run (readingDirective h (take (pduLength h) s)) s ≡ run (readingData h) s
-unfolding readingData
-verified-data h s end v =
-    sym (run-bind (directiveBytes h) (readingDirective h) s ∙ ap (λ o. andThen o (λ p. run (readingDirective h p) s)) (v .bytes-are))
-
-pub refused-header : (s ns : List ℕ) → told ns ≡ run readingHeader s → told ns ≡ run readingNak s
-unfolding readingNak
-refused-header s ns e =
-    sym (run-bind readingHeader readingData s ∙ ap (λ o. andThen o (λ h. run (readingData h) s)) (sym e) ∙ told-on ns (λ h. run (readingData h) s))
+pub read-pdu : (s : List ℕ) (d : DirectivePdu) → accepted d ≡ run readingDirectivePdu s
+    → VerifiedDirective (d .header) s (d .end) × (run (readingDirective (d .header) (take (pduLength (d .header)) s)) s ≡ run readingNak s)
+unfolding readingNak readingData
+read-pdu s d e = pdu-read readingDirective s d e
 
 pub read-header : (h : PduHeader) (s : List ℕ) → accepted h ≡ run readingHeader s → run (readingData h) s ≡ run readingNak s
 unfolding readingNak

@@ -5,7 +5,7 @@ ghost use lib.ListN.{length, take};
 ghost use Rattle.fields.specs.Staged.{run};
 ghost use Rattle.header.specs.Header.{headerLength, pduLength, dataEnd};
 ghost use Rattle.nak.specs.Nak.{areaStart, nakIn};
-ghost use Rattle.nak.specs.Reading.{nakAnswer, readingScope, readingDirective, readingData, readingNak};
+ghost use Rattle.nak.specs.Reading.{nakAnswer, readingScope, readingDirective, readingNak};
 use crate::Nak;
 use crate::NakResult;
 use crate::area_start;
@@ -13,9 +13,9 @@ use crate::directive::Directive;
 use crate::offset_at;
 use crate::offset_width;
 use fields::Refusal;
-use header::HeaderResult;
-use header::LengthResult;
 use header::PduHeader;
+use header::directive::DirectivePdu;
+use header::directive::DirectiveResult;
 
 // The NAK in its PDU, whose data ends at `end`, behind the scope.
 fn nak_in(header: PduHeader, pdu: &[u8], end: usize) -> Nak
@@ -71,25 +71,15 @@ fn read_directive(header: PduHeader, buf: &[u8], end: usize) -> NakResult
     }
 }
 
-fn read_data(header: PduHeader, buf: &[u8]) -> NakResult
-    ensures { λ r. ⌜ nakAnswer r ≡ run (readingData header) (now (buf .entry)) ⌝ }
-{
-    let verified = header.verify_directive(buf);
-    match verified {
-        LengthResult::Refused(refusal) => NakResult::Refused(refusal),
-        LengthResult::Length(end) => read_directive(header, buf, end),
-    }
-}
-
 impl Nak {
     // The segment metadata flag is read and not judged, as in the Rust. What follows the PDU is not looked at.
     pub fn from_bytes(buf: &[u8]) -> NakResult
         ensures { λ r. ⌜ nakAnswer r ≡ run readingNak (now (buf .entry)) ⌝ }
     {
-        let header = PduHeader::from_bytes(buf);
-        match header {
-            HeaderResult::Refused(refusal) => NakResult::Refused(refusal),
-            HeaderResult::Header(header) => read_data(header, buf),
+        let read = DirectivePdu::from_bytes(buf);
+        match read {
+            DirectiveResult::Refused(refusal) => NakResult::Refused(refusal),
+            DirectiveResult::Directive(pdu) => read_directive(pdu.header, buf, pdu.end),
         }
     }
 }

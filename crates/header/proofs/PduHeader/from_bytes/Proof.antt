@@ -1,122 +1,41 @@
--- `header::PduHeader::from_bytes` meets its contract: each exit's answer is the stages'.
+-- `header::PduHeader::from_bytes` meets its contract: what was measured is what is read.
 -- Assumes nothing.
-use Prim.Native.Nat.{_+_, _*_}
 use mathlib.Core.Path.{sym, ap, _∙_}
-use native.Mathlib.Omega.{arith}
 use lib.Seq.{length-take-le}
-use borrow.Author.Tests.{not-true, not-false}
 use Rattle.fields.specs.Answer.{accepted}
-use Rattle.header.specs.Answers.{headerAnswer}
-use Rattle.header.proofs.Reading.{short-4, bad-version, bad-entity, bad-sequence, short-h, whole, holds}
 use borrow.Author.Needs.{needs}
 use Rattle.header.proofs.PduHeader.from_bytes.Statement.{statement}
 use Rattle.header.proofs.PduHeader.from_bytes.Tie as tie
 
-short-requires : tie.Need-short-requires
-short-requires c κs = search needs
+length-in-requires : tie.Need-length-in-requires
+length-in-requires c κs = search needs
 
-returns : tie.Need-returns
-returns c = ap headerAnswer (c .short .ensures) ∙ short-4 _ (c .before .if1 .taken)
+enum-known-length : tie.Need-enum-known-length
+enum-known-length c = search needs
 
-slice-aggregate-fixed : tie.Need-slice-aggregate-fixed
-slice-aggregate-fixed c = sym (length-take-le 4 (c .before .before .before .args .buf .now) (omega arith))
-
-shared-slice-read-three-at : tie.Need-shared-slice-read-three-at
-shared-slice-read-three-at c = omega (arith, length-take-le 4 (c .before .before .before .before .args .buf .now) (omega arith))
-
-three-at-requires : tie.Need-three-at-requires
-three-at-requires c κs = search needs
-
-returns-2 : tie.Need-returns-2
-returns-2 c = bad-version _ (omega arith) _ (c .before .three-at .ensures) (c .if2 .taken)
-
-shared-slice-read-width-at : tie.Need-shared-slice-read-width-at
-shared-slice-read-width-at c = omega (arith, length-take-le 4 (c .before .before .before .before .before .before .before .args .buf .now) (omega arith))
-
-width-at-requires : tie.Need-width-at-requires
-width-at-requires c κs = search needs
-
-is-width-requires : tie.Need-is-width-requires
-is-width-requires c κs = search needs
-
-returns-3 : tie.Need-returns-3
-returns-3 c =
-    bad-entity _ (omega arith) (sym (c .before .before .before .before .before .three-at .ensures) ∙ c .before .before .before .before .if2 .left) _ (c .before .before .width-at .ensures .0) (sym (c .before .is-width .ensures) ∙ not-true _ (c .if3 .taken))
-
-shared-slice-read-width-at-2 : tie.Need-shared-slice-read-width-at-2
-shared-slice-read-width-at-2 c = omega (arith, length-take-le 4 (c .before .before .before .before .before .before .before .before .before .before .before .args .buf .now) (omega arith))
-
-width-at-requires-2 : tie.Need-width-at-requires-2
-width-at-requires-2 c κs = search needs
-
-is-width-requires-2 : tie.Need-is-width-requires-2
-is-width-requires-2 c κs = search needs
-
-returns-4 : tie.Need-returns-4
-returns-4 c =
-    bad-sequence _ (omega arith) (sym (c .before .before .before .before .before .before .before .before .before .three-at .ensures) ∙ c .before .before .before .before .before .before .before .before .if2 .left) _ (c .before .before .before .before .before .before .width-at .ensures .0) (sym (c .before .before .before .before .before .is-width .ensures) ∙ not-false _ (c .before .before .before .before .if3 .left)) _ (omega arith) (sym (c .before .is-width2 .ensures) ∙ not-true _ (c .if4 .taken))
-
-cast-len : tie.Need-cast-len
-cast-len c = search needs
-
-mul-len : tie.Need-mul-len
-mul-len c = search needs
-
-add-len : tie.Need-add-len
-add-len c = search needs
-
-cast-len-2 : tie.Need-cast-len-2
-cast-len-2 c = search needs
-
-add-len-2 : tie.Need-add-len-2
-add-len-2 c = search needs
-
-short-requires-2 : tie.Need-short-requires-2
-short-requires-2 c κs = search needs
-
-returns-5 : tie.Need-returns-5
-returns-5 c =
-    ap headerAnswer (c .short2 .ensures)
-    ∙ short-h _ (omega arith) (sym (c .before .before .before .before .before .before .before .before .before .before .before .three-at .ensures) ∙ c .before .before .before .before .before .before .before .before .before .before .if2 .left) _ (c .before .before .before .before .before .before .before .before .width-at .ensures .0) (sym (c .before .before .before .before .before .before .before .is-width .ensures) ∙ not-false _ (c .before .before .before .before .before .before .if3 .left)) (c .before .before .before .before .width-at2 .result) (omega arith) (sym (c .before .before .before .is-width2 .ensures) ∙ not-false _ (c .before .before .if4 .left)) _ (omega arith) (c .before .if5 .taken)
+enum-known-length-2 : tie.Need-enum-known-length-2
+enum-known-length-2 c = search needs
 
 slice-aggregate-header-in : tie.Need-slice-aggregate-header-in
-slice-aggregate-header-in c =
-    sym (length-take-le (4 + 2 * c .before .before .before .before .before .before .before .before .width-at .result + c .before .before .before .before .width-at2 .result) (c .before .before .before .before .before .before .before .before .before .before .before .before .before .before .before .before .args .buf .now) (omega arith))
+slice-aggregate-header-in c = let m = rw (c .before .before .length2 .given .1) at (c .before .before .before .before .length-in .ensures) in sym (length-take-le _ _ (m .0))
 
 header-in-requires : tie.Need-header-in-requires
-header-in-requires c κs =
-    holds (c .before .before .before .before .before .before .before .before .before .before .before .before .before .before .before .before .args .buf .now) (4 + 2 * c .before .before .before .before .before .before .before .before .width-at .result + c .before .before .before .before .width-at2 .result) (omega arith) (omega arith)
+header-in-requires c κs = let m = rw (c .before .before .length2 .given .1) at (c .before .before .before .before .length-in .ensures) in m .1
 
-returns-6 : tie.Need-returns-6
-returns-6 c =
-    ap accepted (c .header-in .ensures)
-    ∙ whole _ (omega arith) (sym (c .before .before .before .before .before .before .before .before .before .before .before .before .three-at .ensures) ∙ c .before .before .before .before .before .before .before .before .before .before .before .if2 .left) _ (c .before .before .before .before .before .before .before .before .before .width-at .ensures .0) (sym (c .before .before .before .before .before .before .before .before .is-width .ensures) ∙ not-false _ (c .before .before .before .before .before .before .before .if3 .left)) (c .before .before .before .before .before .width-at2 .result) (omega arith) (sym (c .before .before .before .before .is-width2 .ensures) ∙ not-false _ (c .before .before .before .if4 .left)) (4 + 2 * c .before .before .before .before .before .before .before .before .before .width-at .result + c .before .before .before .before .before .width-at2 .result) (omega arith) (omega arith)
+returns : tie.Need-returns
+returns c = rw (c .before .length .given .1) at (c .before .before .before .length-in .ensures)
+
+returns-2 : tie.Need-returns-2
+returns-2 c = let m = rw (c .before .before .before .length2 .given .1) at (c .before .before .before .before .before .length-in .ensures) in ap accepted (c .header-in .ensures) ∙ m .2
 
 pub from-bytes-spec : {M : Type 1} → statement M
 from-bytes-spec =
     tie.close
     (tie.spec
-    short-requires
-    returns
-    slice-aggregate-fixed
-    shared-slice-read-three-at
-    three-at-requires
-    returns-2
-    shared-slice-read-width-at
-    width-at-requires
-    is-width-requires
-    returns-3
-    shared-slice-read-width-at-2
-    width-at-requires-2
-    is-width-requires-2
-    returns-4
-    cast-len
-    mul-len
-    add-len
-    cast-len-2
-    add-len-2
-    short-requires-2
-    returns-5
+    length-in-requires
+    enum-known-length
+    enum-known-length-2
     slice-aggregate-header-in
     header-in-requires
-    returns-6)
+    returns
+    returns-2)

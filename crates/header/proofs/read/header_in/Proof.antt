@@ -26,26 +26,62 @@ cast-e c = search needs
 cast-q : tie.Need-cast-q
 cast-q c = search needs
 
+add-second : tie.Need-add-second
+add-second c = search needs
+
+add-third : tie.Need-add-third
+add-third c = search needs
+
+sub-read-be : tie.Need-sub-read-be
+sub-read-be c = search needs
+
+part-read-be-start : tie.Need-part-read-be-start
+part-read-be-start c = search needs
+
+part-read-be-end : tie.Need-part-read-be-end
+part-read-be-end c = search needs
+
 read-be-requires : tie.Need-read-be-requires
 read-be-requires c κs = search needs
 
 cast-length : tie.Need-cast-length
-cast-length c = omega arith
+cast-length c = search needs
+
+sub-read-be-2 : tie.Need-sub-read-be-2
+sub-read-be-2 c = search needs
+
+part-read-be-start-2 : tie.Need-part-read-be-start-2
+part-read-be-start-2 c = search needs
+
+part-read-be-end-2 : tie.Need-part-read-be-end-2
+part-read-be-end-2 c = search needs
 
 read-be-requires-2 : tie.Need-read-be-requires-2
 read-be-requires-2 c κs = search needs
 
-add-read-be : tie.Need-add-read-be
-add-read-be c = search needs
+sub-read-be-3 : tie.Need-sub-read-be-3
+sub-read-be-3 c = search needs
+
+part-read-be-start-3 : tie.Need-part-read-be-start-3
+part-read-be-start-3 c = search needs
+
+part-read-be-end-3 : tie.Need-part-read-be-end-3
+part-read-be-end-3 c = search needs
 
 read-be-requires-3 : tie.Need-read-be-requires-3
 read-be-requires-3 c κs = search needs
 
-add-read-be-2 : tie.Need-add-read-be-2
-add-read-be-2 c = search needs
+add-read-be : tie.Need-add-read-be
+add-read-be c = search needs
 
-add-read-be-3 : tie.Need-add-read-be-3
-add-read-be-3 c = search needs
+sub-read-be-4 : tie.Need-sub-read-be-4
+sub-read-be-4 c = search needs
+
+part-read-be-start-4 : tie.Need-part-read-be-start-4
+part-read-be-start-4 c = search needs
+
+part-read-be-end-4 : tie.Need-part-read-be-end-4
+part-read-be-end-4 c = search needs
 
 read-be-requires-4 : tie.Need-read-be-requires-4
 read-be-requires-4 c κs = search needs
@@ -96,7 +132,7 @@ new-requires : tie.Need-new-requires
 new-requires c κs = search needs
 
 returns : tie.Need-returns
-returns c = header-is _ (c .before .before .before .before .before .before .before .before .before .before .before .before .before .before .before .before .before .before .before .before .before .before .before .before .pre) _ _ _ _ _ _ _ _ _ _ _ _ _ _
+returns c = header-is _ (c .before .before .before .before .before .before .before .before .before .before .before .before .before .before .before .before .before .before .before .before .before .before .before .before .before .before .before .before .pre) _ _ _ _ _ _ _ _ _ _ _ _ _ _
     (c .before .before .before .before .before .before .before .before .before .before .before .before .before .from-bit .ensures ∙ ap pduTypeIf (c .before .before .before .before .before .before .before .before .before .before .before .before .before .before .bit-at .ensures))
     (c .before .before .before .before .before .before .before .before .before .before .before .from-bit2 .ensures ∙ ap directionIf (c .before .before .before .before .before .before .before .before .before .before .before .before .bit-at2 .ensures))
     (c .before .before .before .before .before .before .before .before .before .from-bit3 .ensures ∙ ap modeIf (c .before .before .before .before .before .before .before .before .before .before .bit-at3 .ensures))
@@ -104,11 +140,11 @@ returns c = header-is _ (c .before .before .before .before .before .before .befo
     (c .before .before .before .before .before .from-bit5 .ensures ∙ ap fileIf (c .before .before .before .before .before .before .bit-at5 .ensures))
     (c .before .before .before .from-bit6 .ensures ∙ ap controlIf (c .before .before .before .before .bit-at6 .ensures))
     (c .before .from-bit7 .ensures ∙ ap metadataIf (c .before .before .bit-at7 .ensures))
-    (c .before .before .before .before .before .before .before .before .before .before .before .before .before .before .before .before .before .before .before .before .width-at .ensures .0)
-    (omega (arith, c .before .before .before .before .before .before .before .before .before .before .before .before .before .before .before .before .before .before .before .width-at2 .ensures .0))
-    (c .before .before .before .before .before .before .before .before .before .before .before .before .before .before .before .before .before .before .read-be .ensures .0)
-    (c .before .before .before .before .before .before .before .before .before .before .before .before .before .before .before .before .before .read-be2 .ensures .0)
-    (c .before .before .before .before .before .before .before .before .before .before .before .before .before .before .before .before .read-be3 .ensures .0)
+    (c .before .before .before .before .before .before .before .before .before .before .before .before .before .before .before .before .before .before .before .before .before .before .before .before .width-at .ensures .0)
+    (omega (arith, c .before .before .before .before .before .before .before .before .before .before .before .before .before .before .before .before .before .before .before .before .before .before .before .width-at2 .ensures .0))
+    (c .before .before .before .before .before .before .before .before .before .before .before .before .before .before .before .before .before .before .before .before .before .read-be .ensures .0)
+    (c .before .before .before .before .before .before .before .before .before .before .before .before .before .before .before .before .before .before .before .read-be2 .ensures .0)
+    (c .before .before .before .before .before .before .before .before .before .before .before .before .before .before .before .before .before .read-be3 .ensures .0)
     (c .before .before .before .before .before .before .before .before .before .before .before .before .before .before .before .read-be4 .ensures .0)
     (c .new .ensures)
 
@@ -122,13 +158,25 @@ header-in-spec =
     width-at-requires-2
     cast-e
     cast-q
+    add-second
+    add-third
+    sub-read-be
+    part-read-be-start
+    part-read-be-end
     read-be-requires
     cast-length
+    sub-read-be-2
+    part-read-be-start-2
+    part-read-be-end-2
     read-be-requires-2
-    add-read-be
+    sub-read-be-3
+    part-read-be-start-3
+    part-read-be-end-3
     read-be-requires-3
-    add-read-be-2
-    add-read-be-3
+    add-read-be
+    sub-read-be-4
+    part-read-be-start-4
+    part-read-be-end-4
     read-be-requires-4
     bit-at-requires
     from-bit-requires

@@ -73,7 +73,7 @@ head (w ∷ ws) = w
 header-at : fieldOf N′.mir 0 ≡ just (H′.mir, 0)
 header-at = refl
 
-file-at : fieldOf H′.mir 4 ≡ just (F′.mir, 4)
+file-at : fieldOf H′.mir 8 ≡ just (F′.mir, 42)
 file-at = refl
 
 -- the cursor that the struct is made with
@@ -166,7 +166,7 @@ module _ {M : Type 1} (𝓤 : URA M) (H : Heap 𝓤) (A : Atoms 𝓤) (W : Given
           -- [what the slice owns; the token; what s owns; room for _4; …; _3; …; _2; …; _1; …; room for _0; …]
           peeks ! Slice (Is Slice) (shows 𝓤 H A Slice) r (u ∷ []) (λ is.
           land ! (from ! (stop !)) (init ! 3 refl (shr-slice-lawful 𝓤 H A W erased κ u8 .typed r (u ∷ []) is .0)) $
-          assigns ! (agg ! (and-then ! (load ! (from ! (stop !)) (look ! 5 refl)) (and-then ! (load ! (from ! (stop !)) (look ! 3 refl)) (and-then ! (load ! (from ! (fld ! header-at (fld ! file-at (stop !)))) (look-in ! 9 (sub ! 4 file-at (sub ! 0 header-at (whole !))))) (no-more !))))) (from ! (stop !)) (init ! 11 refl (typed-low r u is)) $
+          assigns ! (agg ! (and-then ! (load ! (from ! (stop !)) (look ! 5 refl)) (and-then ! (load ! (from ! (stop !)) (look ! 3 refl)) (and-then ! (load ! (from ! (fld ! header-at (fld ! file-at (stop !)))) (look-in ! 9 (sub ! 8 file-at (sub ! 0 header-at (whole !))))) (no-more !))))) (from ! (stop !)) (init ! 11 refl (typed-low r u is)) $
           returns ! (look ! 11 refl) $ forget ! 3 refl $ forget ! 5 refl $ forget ! 7 refl $ forget ! 9 refl $ forget ! 11 refl $
           move ! (11 ∷ 12 ∷ []) $ free1 ! $ move ! (9 ∷ 10 ∷ []) $ free1 ! $ move ! (7 ∷ 8 ∷ []) $ free1 ! $ move ! (5 ∷ 6 ∷ []) $ free1 ! $ move ! (3 ∷ 4 ∷ []) $ free1 ! $ free0 ! $ by ! (exits r u is e))))))))))
 

@@ -9,7 +9,7 @@ use lib.ListN.{length, drop, getD}
 use lib.Seq.{sets}
 use Rattle.fields.proofs.BigEndian.{put-length}
 use Rattle.nak.specs.Writing.{numbersBytes}
-use Rattle.nak.proofs.Parts.{part-put}
+use Rattle.fields.proofs.Parts.{part-put}
 use Rattle.nak.proofs.Writing.{exchanged-pair, pair-turn, numbers-done}
 use borrow.Author.Needs.{needs}
 use Rattle.nak.proofs.write.put_normal.Statement.{statement}

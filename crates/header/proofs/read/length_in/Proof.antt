@@ -1,0 +1,112 @@
+-- `header::read::length_in` meets its contract: each exit's answer is the stages'.
+-- Assumes nothing.
+use Prim.Native.Nat.{_+_, _*_}
+use mathlib.Core.Path.{sym, ap, _∙_}
+use native.Mathlib.Omega.{arith}
+use lib.Seq.{length-take-le}
+use borrow.Author.Tests.{not-true, not-false}
+use Rattle.header.proofs.Reading.{short-4, bad-version, bad-entity, bad-sequence, short-h, whole, holds}
+use borrow.Author.Needs.{needs}
+use Rattle.header.proofs.read.length_in.Statement.{statement}
+use Rattle.header.proofs.read.length_in.Tie as tie
+
+short-requires : tie.Need-short-requires
+short-requires c κs = search needs
+
+returns : tie.Need-returns
+returns c = rw (c .short .ensures) (short-4 _ (c .before .if1 .taken))
+
+slice-aggregate-fixed : tie.Need-slice-aggregate-fixed
+slice-aggregate-fixed c = sym (length-take-le 4 (c .before .before .before .args .buf .now) (omega arith))
+
+shared-slice-read-three-at : tie.Need-shared-slice-read-three-at
+shared-slice-read-three-at c = omega (arith, length-take-le 4 (c .before .before .before .before .args .buf .now) (omega arith))
+
+three-at-requires : tie.Need-three-at-requires
+three-at-requires c κs = search needs
+
+returns-2 : tie.Need-returns-2
+returns-2 c = bad-version _ (omega arith) _ (c .before .three-at .ensures) (c .if2 .taken)
+
+shared-slice-read-width-at : tie.Need-shared-slice-read-width-at
+shared-slice-read-width-at c = omega (arith, length-take-le 4 (c .before .before .before .before .before .before .before .args .buf .now) (omega arith))
+
+width-at-requires : tie.Need-width-at-requires
+width-at-requires c κs = search needs
+
+is-width-requires : tie.Need-is-width-requires
+is-width-requires c κs = search needs
+
+returns-3 : tie.Need-returns-3
+returns-3 c =
+    bad-entity _ (omega arith) (sym (c .before .before .before .before .before .three-at .ensures) ∙ c .before .before .before .before .if2 .left) _ (c .before .before .width-at .ensures .0) (sym (c .before .is-width .ensures) ∙ not-true _ (c .if3 .taken))
+
+shared-slice-read-width-at-2 : tie.Need-shared-slice-read-width-at-2
+shared-slice-read-width-at-2 c = omega (arith, length-take-le 4 (c .before .before .before .before .before .before .before .before .before .before .before .args .buf .now) (omega arith))
+
+width-at-requires-2 : tie.Need-width-at-requires-2
+width-at-requires-2 c κs = search needs
+
+is-width-requires-2 : tie.Need-is-width-requires-2
+is-width-requires-2 c κs = search needs
+
+returns-4 : tie.Need-returns-4
+returns-4 c =
+    bad-sequence _ (omega arith) (sym (c .before .before .before .before .before .before .before .before .before .three-at .ensures) ∙ c .before .before .before .before .before .before .before .before .if2 .left) _ (c .before .before .before .before .before .before .width-at .ensures .0) (sym (c .before .before .before .before .before .is-width .ensures) ∙ not-false _ (c .before .before .before .before .if3 .left)) _ (omega arith) (sym (c .before .is-width2 .ensures) ∙ not-true _ (c .if4 .taken))
+
+cast-len : tie.Need-cast-len
+cast-len c = search needs
+
+mul-len : tie.Need-mul-len
+mul-len c = search needs
+
+add-len : tie.Need-add-len
+add-len c = search needs
+
+cast-len-2 : tie.Need-cast-len-2
+cast-len-2 c = search needs
+
+add-len-2 : tie.Need-add-len-2
+add-len-2 c = search needs
+
+short-requires-2 : tie.Need-short-requires-2
+short-requires-2 c κs = search needs
+
+returns-5 : tie.Need-returns-5
+returns-5 c =
+    rw (c .short2 .ensures)
+    (short-h _ (omega arith) (sym (c .before .before .before .before .before .before .before .before .before .before .before .three-at .ensures) ∙ c .before .before .before .before .before .before .before .before .before .before .if2 .left) _ (c .before .before .before .before .before .before .before .before .width-at .ensures .0) (sym (c .before .before .before .before .before .before .before .is-width .ensures) ∙ not-false _ (c .before .before .before .before .before .before .if3 .left)) (c .before .before .before .before .width-at2 .result) (omega arith) (sym (c .before .before .before .is-width2 .ensures) ∙ not-false _ (c .before .before .if4 .left)) _ (omega arith) (c .before .if5 .taken))
+
+returns-6 : tie.Need-returns-6
+returns-6 c = (
+  omega arith,
+  holds (c .before .before .before .before .before .before .before .before .before .before .before .before .before .before .before .args .buf .now) (4 + 2 * c .before .before .before .before .before .before .before .width-at .result + c .before .before .before .width-at2 .result) (omega arith) (omega arith),
+  whole _ (omega arith) (sym (c .before .before .before .before .before .before .before .before .before .before .three-at .ensures) ∙ c .before .before .before .before .before .before .before .before .before .if2 .left) _ (c .before .before .before .before .before .before .before .width-at .ensures .0) (sym (c .before .before .before .before .before .before .is-width .ensures) ∙ not-false _ (c .before .before .before .before .before .if3 .left)) (c .before .before .before .width-at2 .result) (omega arith) (sym (c .before .before .is-width2 .ensures) ∙ not-false _ (c .before .if4 .left)) (4 + 2 * c .before .before .before .before .before .before .before .width-at .result + c .before .before .before .width-at2 .result) (omega arith) (omega arith),
+)
+
+pub length-in-spec : {M : Type 1} → statement M
+length-in-spec =
+    tie.close
+    (tie.spec
+    short-requires
+    returns
+    slice-aggregate-fixed
+    shared-slice-read-three-at
+    three-at-requires
+    returns-2
+    shared-slice-read-width-at
+    width-at-requires
+    is-width-requires
+    returns-3
+    shared-slice-read-width-at-2
+    width-at-requires-2
+    is-width-requires-2
+    returns-4
+    cast-len
+    mul-len
+    add-len
+    cast-len-2
+    add-len-2
+    short-requires-2
+    returns-5
+    returns-6)
