@@ -10,7 +10,7 @@ use borrow.Author.Tests.{lt-ltb, le-ltb, ltb-false, not-false}
 use Rattle.fields.specs.Answer.{Answer, accepted, told, Test, firstOf, leaves}
 use Rattle.fields.proofs.Judging.{Passed, passed, all-passed, passed-first, passed-last, passed-on, refused-on, told-leaves}
 use Rattle.header.specs.declared.PduHeader.{PduHeader}
-use Rattle.header.specs.Header.{pduLength, dataEnd}
+use Rattle.header.specs.Header.{headerLength, pduLength, dataEnd}
 use Rattle.header.specs.Directive.{directiveTests, judgingDirective}
 use Rattle.header.proofs.Directives.{refused-directive}
 use Rattle.nak.specs.declared.write.NakWritten.{NakWritten}
@@ -24,20 +24,23 @@ use Rattle.nak.proofs.Writing.{handed-back, around, judged-nak, into-ro
 -- ---- the judgement of the pairs
 
 module _ (h : PduHeader) (n : ℕ) where
-  pub refused-pairs : (ns : List ℕ) → told ns ≡ judgingDirective h → told ns ≡ firstOf (pairTests h n) n
+  abbrev judged-pairs-as : Answer ℕ
+  judged-pairs-as = firstOf (pairTests h n) (headerLength h)
+
+  pub refused-pairs : (ns : List ℕ) → told ns ≡ judgingDirective h → told ns ≡ judged-pairs-as
   unfolding pairTests
   refused-pairs ns e = refused-directive h _ _ ns e
 
   module _ (good : Passed (directiveTests h)) (most : ℕ) (pm : most ≡ mostPairs (h .file)) where
-    rest : firstOf (pairTests h n) n ≡ firstOf (tooMany (h .file) n ∷ []) n
+    rest : judged-pairs-as ≡ firstOf (tooMany (h .file) n ∷ []) (headerLength h)
     unfolding pairTests
     rest = passed-on (directiveTests h) _ _ good
 
-    pub many-pairs : most < n → told (10 ∷ n ∷ most ∷ []) ≡ firstOf (pairTests h n) n
+    pub many-pairs : most < n → told (10 ∷ n ∷ most ∷ []) ≡ judged-pairs-as
     unfolding told
     many-pairs l = rw (rest, ← pm, lt-ltb _ _ l)
 
-    pub judged-pairs : n ≤ most → accepted n ≡ firstOf (pairTests h n) n
+    pub judged-pairs : n ≤ most → accepted (headerLength h) ≡ judged-pairs-as
     judged-pairs l = rw (rest, ← pm, le-ltb _ _ l)
 
   -- what passed has no more pairs than fit
@@ -45,18 +48,12 @@ module _ (h : PduHeader) (n : ℕ) where
   unfolding pairTests
   few-pairs p = ltb-false _ _ (passed-last (directiveTests h) (tooMany (h .file) n ∷ []) p .0)
 
-  module _ (m : ℕ) (e : accepted m ≡ firstOf (pairTests h n) n) where
+  module _ (m : ℕ) (e : accepted m ≡ judged-pairs-as) where
     pub pairs-passed : Passed (pairTests h n)
-    pairs-passed = passed (pairTests h n) m n e .0
+    pairs-passed = passed (pairTests h n) m (headerLength h) e .0
 
-    pub pairs-are : m ≡ n
-    pairs-are = passed (pairTests h n) m n e .1
-
-    pub pairs-fit : m ≤ mostPairs (h .file)
-    pairs-fit = rw pairs-are (few-pairs pairs-passed)
-
-    pub kept-are : (k : PduHeader) → k ≡ keeping h m → k ≡ keeping h n
-    kept-are k p = p ∙ ap (keeping h) pairs-are
+    pub pairs-fit : n ≤ mostPairs (h .file)
+    pairs-fit = few-pairs pairs-passed
 
 -- ---- reserving
 
@@ -90,11 +87,11 @@ scope-passed h n start end good s =
     passed (pairTests h n ++ us) n n a .0
 
 module _ (h : PduHeader) (n start end room : ℕ) where
-  pub refused-finish : (ns : List ℕ) → told ns ≡ firstOf (pairTests h n) n → told ns ≡ lengthInto (finishTests h n start end) (keeping h n) room
+  pub refused-finish : (ns : List ℕ) → told ns ≡ firstOf (pairTests h n) (headerLength h) → told ns ≡ lengthInto (finishTests h n start end) (keeping h n) room
   unfolding finishTests
   refused-finish ns e =
       let us = scopeTooLarge (h .file) start end ∷ [] in
-      refused-length (pairTests h n ++ us) (keeping h n) room n ns (refused-on ns (pairTests h n) us n n e)
+      refused-length (pairTests h n ++ us) (keeping h n) room n ns (refused-on ns (pairTests h n) us (headerLength h) n e)
 
   module _ (good : Passed (pairTests h n)) where
     pub scope-finish : scopeFits (h .file) start end ≡ false → told (9 ∷ start ∷ end ∷ []) ≡ lengthInto (finishTests h n start end) (keeping h n) room

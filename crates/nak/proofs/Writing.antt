@@ -106,37 +106,28 @@ module _ {A : Type 0} (x : A) (file : LargeFileFlag) (h : PduHeader) (start end 
         pub none-holds : count / 2 ≤ most → accepted x ≡ judged-as
         none-holds l = rw (rest, eq-eqb _ _ even, scope, ← pm, le-ltb _ _ l)
 
--- from the count of the pairs to the header that is handed back
+-- from what was judged to the header that is handed back
 module _ (file : LargeFileFlag) (h : PduHeader) (start end count : ℕ) where
   pub judged-nak : Passed (directiveTests h) → count % 2 ≡ 0 → scopeFits file start end ≡ true → (most : ℕ) → most ≡ mostPairs file → count / 2 ≤ most
       → accepted (filled file (count / 2) h) ≡ judgingNak file h start end count
   unfolding judgingNak
   judged-nak good even scope most pm l = none-holds (filled file (count / 2) h) file h start end count good even scope most pm l
 
-  pub refused-count : (ns : List ℕ) → told ns ≡ firstOf (nakTests file h start end count) (count / 2) → told ns ≡ judgingNak file h start end count
+  pub refused-judged : (ns : List ℕ) → told ns ≡ firstOf (nakTests file h start end count) (headerLength h) → told ns ≡ judgingNak file h start end count
   unfolding judgingNak
-  refused-count ns e = rw (append-nil (nakTests file h start end count)) at (refused-on ns (nakTests file h start end count) [] (count / 2) (filled file (count / 2) h) e)
+  refused-judged ns e = rw (append-nil (nakTests file h start end count)) at (refused-on ns (nakTests file h start end count) [] (headerLength h) (filled file (count / 2) h) e)
 
-  module _ (n : ℕ) (e : accepted n ≡ firstOf (nakTests file h start end count) (count / 2)) where
-    pub count-fits : n ≤ mostPairs file
+  module _ (n : ℕ) (e : accepted n ≡ firstOf (nakTests file h start end count) (headerLength h)) where
+    pub judged-passed : Passed (nakTests file h start end count)
+    judged-passed = passed (nakTests file h start end count) n (headerLength h) e .0
+
+    pub judged-fits : count / 2 ≤ mostPairs file
     unfolding nakTests
-    count-fits =
-        let p = passed (nakTests file h start end count) n (count / 2) e in
-        let u = passed-last (directiveTests h) (oddCount count ∷ scopeTooLarge file start end ∷ tooMany file (count / 2) ∷ []) (p .0) in
-        rw (p .1) (ltb-false _ _ (u .1 .1 .0))
+    judged-fits = ltb-false _ _ (passed-last (directiveTests h) (oddCount count ∷ scopeTooLarge file start end ∷ tooMany file (count / 2) ∷ []) judged-passed .1 .1 .0)
 
-    pub count-passed : Passed (nakTests file h start end count)
-    count-passed = passed (nakTests file h start end count) n (count / 2) e .0
-
-    pub filled-are : (k : PduHeader) → k ≡ filled file n h → k ≡ filled file (count / 2) h
-    filled-are k p = p ∙ ap (λ (m : ℕ). filled file m h) (passed (nakTests file h start end count) n (count / 2) e .1)
-
-    pub counted-nak : accepted (filled file n h) ≡ judgingNak file h start end count
+    pub judged-filled : accepted (filled file (count / 2) h) ≡ judgingNak file h start end count
     unfolding judgingNak
-    counted-nak =
-        let p = passed (nakTests file h start end count) n (count / 2) e in
-        ap (λ (k : ℕ). accepted (filled file k h)) (p .1)
-        ∙ sym (all-passed (nakTests file h start end count) (filled file (count / 2) h) (p .0))
+    judged-filled = sym (all-passed (nakTests file h start end count) (filled file (count / 2) h) judged-passed)
 
 -- ---- room
 

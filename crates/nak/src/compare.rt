@@ -7,11 +7,11 @@ ghost use Rattle.nak.specs.Comparing.{compareAnswer, sameNak, holdsNumbe
 ghost use Rattle.nak.specs.Within.{comparingRead};
 use crate::Nak;
 use crate::NakResult;
-use crate::count::CountResult;
 use crate::write;
 use fields::Refusal;
 use fields::be;
 use header::LargeFileFlag;
+use header::LengthResult;
 use header::PduHeader;
 
 // Whether the buffer holds that NAK, or why that cannot be told.
@@ -90,11 +90,11 @@ fn compare_read(
 ) -> CompareResult
     ensures { λ r. ⌜ compareAnswer r ≡ comparingRead file header start end count nak held ⌝ }
 {
-    let judged = write::judge_count(header, file, start, end, count);
+    let judged = write::judge_nak(header, file, start, end, count);
     match judged {
-        CountResult::Refused(refusal) => CompareResult::Refused(refusal),
-        CountResult::Count(pairs) => {
-            if !same_nak(nak, write::fill(header, file, pairs), start, end) {
+        LengthResult::Refused(refusal) => CompareResult::Refused(refusal),
+        LengthResult::Length(_) => {
+            if !same_nak(nak, write::fill(header, file, count / 2), start, end) {
                 return CompareResult::Different;
             }
             verdict(held)

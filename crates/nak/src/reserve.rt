@@ -4,12 +4,11 @@ ghost use Prim.Native.Nat.{_≤_};
 ghost use lib.ListN.{length};
 ghost use Rattle.fields.specs.Answer.{firstOf};
 ghost use Rattle.header.specs.Answers.{lengthAnswer};
+ghost use Rattle.header.specs.Header.{headerLength};
 ghost use Rattle.nak.specs.Writing.{writeAnswer, mostPairs};
-ghost use Rattle.nak.specs.Counting.{countAnswer};
 ghost use Rattle.nak.specs.Reserving.{reserveAnswer, pairTests, keeping, placed, reserving, finishTests, finishing, finishedMemory};
 ghost use Rattle.nak.specs.Within.{lengthInto};
 use crate::area_start;
-use crate::count::CountResult;
 use crate::write;
 use crate::write::NakWritten;
 use crate::write::WriteResult;
@@ -32,20 +31,23 @@ pub enum ReserveResult {
     Refused(Refusal),
 }
 
-// The judgement but for scope and room: the pairs. No header is handed back: it is long.
-fn judge_pairs(header: PduHeader, count: usize) -> CountResult
-    ensures { λ r. ⌜ countAnswer r ≡ firstOf (pairTests header count) count ⌝ }
+// The judgement but for scope and room: h.
+fn judge_pairs(header: PduHeader, count: usize) -> LengthResult
+    ensures { λ r. ⌜ lengthAnswer r ≡ firstOf (pairTests header count) (headerLength header) ⌝ }
 {
     let judged = header.judged_directive();
     match judged {
-        LengthResult::Refused(refusal) => CountResult::Refused(refusal),
-        LengthResult::Length(_) => {
+        LengthResult::Refused(refusal) => LengthResult::Refused(refusal),
+        LengthResult::Length(h) => {
             let file = header.file;
             let most = write::most_pairs(file);
             if most < count {
-                return CountResult::Refused(Refusal::TooManySegmentRequests { found: count, most });
+                return LengthResult::Refused(Refusal::TooManySegmentRequests {
+                    found: count,
+                    most,
+                });
             }
-            CountResult::Count(count)
+            LengthResult::Length(h)
         }
     }
 }
@@ -76,8 +78,8 @@ fn reservable(header: PduHeader, count: usize, room: usize) -> LengthResult
 {
     let judged = judge_pairs(header, count);
     match judged {
-        CountResult::Refused(refusal) => LengthResult::Refused(refusal),
-        CountResult::Count(pairs) => write::with_room(keep(header, pairs), room),
+        LengthResult::Refused(refusal) => LengthResult::Refused(refusal),
+        LengthResult::Length(_) => write::with_room(keep(header, count), room),
     }
 }
 
@@ -86,13 +88,13 @@ fn finishable(header: PduHeader, count: usize, start: u64, end: u64, room: usize
 {
     let answer = judge_pairs(header, count);
     match answer {
-        CountResult::Refused(refusal) => LengthResult::Refused(refusal),
-        CountResult::Count(pairs) => {
+        LengthResult::Refused(refusal) => LengthResult::Refused(refusal),
+        LengthResult::Length(_) => {
             let file = header.file;
             if !write::scope_fits(file, start, end) {
                 return LengthResult::Refused(Refusal::InvalidStartOrEndOfScope { start, end });
             }
-            write::with_room(keep(header, pairs), room)
+            write::with_room(keep(header, count), room)
         }
     }
 }

@@ -8,14 +8,12 @@ ghost use lib.Seq.{sets};
 ghost use Rattle.fields.proofs.Judging.{Passed};
 ghost use Rattle.fields.specs.Answer.{firstOf};
 ghost use Rattle.header.specs.Answers.{lengthAnswer};
-ghost use Rattle.header.specs.Header.{pduLength, dataEnd};
+ghost use Rattle.header.specs.Header.{headerLength, pduLength, dataEnd};
 ghost use Rattle.header.specs.Judging.{recordTests};
 ghost use Rattle.nak.specs.Nak.{offsetWidth, areaStart};
-ghost use Rattle.nak.specs.Counting.{countAnswer};
 ghost use Rattle.nak.specs.Writing.{writeAnswer, numbersBytes, startBytes, dataLength, mostPairs, filled, scopeFits, nakTests, noRoom, writingNak, nakMemory};
 ghost use Rattle.nak.specs.Within.{lengthInto};
 use crate::area_start;
-use crate::count::CountResult;
 use crate::offset_width;
 use fields::Refusal;
 use fields::be;
@@ -85,33 +83,35 @@ pub(crate) fn fill(header: PduHeader, file: LargeFileFlag, pairs: usize) -> PduH
         .with_datafield_len(length)
 }
 
-// The writer's judgement but for the room, and how many pairs the numbers are. No header is handed back: it is long, and this function is
-// too long to become a part of its callers.
-pub(crate) fn judge_count(
+// The writer's judgement but for the room: h. As with `judged_directive`, a record would be longer to hand back.
+pub(crate) fn judge_nak(
     header: PduHeader,
     file: LargeFileFlag,
     start: u64,
     end: u64,
     count: usize,
-) -> CountResult
-    ensures { λ r. ⌜ countAnswer r ≡ firstOf (nakTests file header start end count) (count / 2) ⌝ }
+) -> LengthResult
+    ensures { λ r. ⌜ lengthAnswer r ≡ firstOf (nakTests file header start end count) (headerLength header) ⌝ }
 {
     let judged = header.judged_directive();
     match judged {
-        LengthResult::Refused(refusal) => CountResult::Refused(refusal),
-        LengthResult::Length(_) => {
+        LengthResult::Refused(refusal) => LengthResult::Refused(refusal),
+        LengthResult::Length(h) => {
             if count % 2 != 0 {
-                return CountResult::Refused(Refusal::OddCount(count));
+                return LengthResult::Refused(Refusal::OddCount(count));
             }
             if !scope_fits(file, start, end) {
-                return CountResult::Refused(Refusal::InvalidStartOrEndOfScope { start, end });
+                return LengthResult::Refused(Refusal::InvalidStartOrEndOfScope { start, end });
             }
             let pairs = count / 2;
             let most = most_pairs(file);
             if most < pairs {
-                return CountResult::Refused(Refusal::TooManySegmentRequests { found: pairs, most });
+                return LengthResult::Refused(Refusal::TooManySegmentRequests {
+                    found: pairs,
+                    most,
+                });
             }
-            CountResult::Count(pairs)
+            LengthResult::Length(h)
         }
     }
 }
@@ -130,7 +130,7 @@ pub(crate) fn with_room(header: PduHeader, room: usize) -> LengthResult
     LengthResult::Length(length)
 }
 
-// The writer's judgement: the bytes that will be written. As above, no header is handed back.
+// The writer's judgement: the bytes that will be written.
 fn writable(
     header: PduHeader,
     file: LargeFileFlag,
@@ -141,10 +141,10 @@ fn writable(
 ) -> LengthResult
     ensures { λ r. ⌜ lengthAnswer r ≡ lengthInto (nakTests file header start end count) (filled file (count / 2) header) room ⌝ }
 {
-    let judged = judge_count(header, file, start, end, count);
+    let judged = judge_nak(header, file, start, end, count);
     match judged {
-        CountResult::Refused(refusal) => LengthResult::Refused(refusal),
-        CountResult::Count(pairs) => with_room(fill(header, file, pairs), room),
+        LengthResult::Refused(refusal) => LengthResult::Refused(refusal),
+        LengthResult::Length(_) => with_room(fill(header, file, count / 2), room),
     }
 }
 

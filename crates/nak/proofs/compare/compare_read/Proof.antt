@@ -2,47 +2,47 @@
 -- Assumes nothing.
 use mathlib.Core.Path.{sym, ap, _∙_}
 use borrow.Author.Tests.{not-true, not-false}
-use Rattle.nak.specs.Counting.{countAnswer}
-use Rattle.nak.proofs.Writing.{count-fits, refused-count, counted-nak}
+use Rattle.header.specs.Answers.{lengthAnswer}
+use Rattle.nak.proofs.Writing.{judged-fits, refused-judged, judged-filled}
 use Rattle.nak.proofs.Comparing.{refused-judging, not-alike, alike}
 use borrow.Author.Needs.{needs}
 use Rattle.nak.proofs.compare.compare_read.Statement.{statement}
 use Rattle.nak.proofs.compare.compare_read.Tie as tie
 
-judge-count-requires : tie.Need-judge-count-requires
-judge-count-requires c κs = search needs
+judge-nak-requires : tie.Need-judge-nak-requires
+judge-nak-requires c κs = search needs
 
 enum-known-judged : tie.Need-enum-known-judged
 enum-known-judged c = search needs
 
-enum-known-judged-2 : tie.Need-enum-known-judged-2
-enum-known-judged-2 c = search needs
+enum-told : tie.Need-enum-told
+enum-told c = search needs
 
 fill-requires : tie.Need-fill-requires
-fill-requires c κs = count-fits _ _ _ _ _ _ (ap countAnswer (sym (c .before .judged2 .given .1)) ∙ c .before .before .before .judge-count .ensures)
+fill-requires c κs = judged-fits _ _ _ _ _ _ (ap lengthAnswer (sym (c .enum-told .given .1)) ∙ c .before .before .judge-nak .ensures)
 
 same-nak-requires : tie.Need-same-nak-requires
 same-nak-requires c κs = search needs
 
 returns : tie.Need-returns
-returns c = not-alike _ _ _ _ _ _ _ _ (counted-nak _ _ _ _ _ _ (ap countAnswer (sym (c .before .before .before .before .judged2 .given .1)) ∙ c .before .before .before .before .before .before .judge-count .ensures)) _ _ (c .before .before .fill .ensures) (c .before .same-nak .ensures) (not-true _ (c .if1 .taken))
+returns c = not-alike _ _ _ _ _ _ _ _ (judged-filled _ _ _ _ _ _ (ap lengthAnswer (sym (c .before .before .before .enum-told .given .1)) ∙ c .before .before .before .before .before .judge-nak .ensures)) _ _ (c .before .before .fill .ensures) (c .before .same-nak .ensures) (not-true _ (c .if1 .taken))
 
 verdict-requires : tie.Need-verdict-requires
 verdict-requires c κs = search needs
 
 returns-2 : tie.Need-returns-2
-returns-2 c = refused-judging _ _ _ _ _ _ _ _ (refused-count _ _ _ _ _ _ (ap countAnswer (sym (c .before .judged .given .1)) ∙ c .before .before .before .judge-count .ensures))
+returns-2 c = refused-judging _ _ _ _ _ _ _ _ (refused-judged _ _ _ _ _ _ (ap lengthAnswer (sym (c .before .judged .given .1)) ∙ c .before .before .before .judge-nak .ensures))
 
 returns-3 : tie.Need-returns-3
-returns-3 c = c .verdict .ensures ∙ alike _ _ _ _ _ _ _ _ (counted-nak _ _ _ _ _ _ (ap countAnswer (sym (c .before .before .before .before .before .judged2 .given .1)) ∙ c .before .before .before .before .before .before .before .judge-count .ensures)) _ _ (c .before .before .before .fill .ensures) (c .before .before .same-nak .ensures) (not-false _ (c .before .if1 .left))
+returns-3 c = c .verdict .ensures ∙ alike _ _ _ _ _ _ _ _ (judged-filled _ _ _ _ _ _ (ap lengthAnswer (sym (c .before .before .before .before .enum-told .given .1)) ∙ c .before .before .before .before .before .before .judge-nak .ensures)) _ _ (c .before .before .before .fill .ensures) (c .before .before .same-nak .ensures) (not-false _ (c .before .if1 .left))
 
 pub compare-read-spec : {M : Type 1} → statement M
 compare-read-spec =
     tie.close
     (tie.spec
-    judge-count-requires
+    judge-nak-requires
     enum-known-judged
-    enum-known-judged-2
+    enum-told
     fill-requires
     same-nak-requires
     returns

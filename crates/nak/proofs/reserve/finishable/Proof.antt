@@ -2,9 +2,9 @@
 -- Assumes nothing.
 use mathlib.Core.Path.{sym, ap, _∙_}
 use borrow.Author.Tests.{not-true, not-false}
-use Rattle.nak.specs.Counting.{countAnswer}
+use Rattle.header.specs.Answers.{lengthAnswer}
 use Rattle.nak.proofs.Writing.{room-decides}
-use Rattle.nak.proofs.Reserving.{pairs-passed, pairs-fit, kept-are, refused-finish, scope-finish, scope-passed}
+use Rattle.nak.proofs.Reserving.{pairs-passed, pairs-fit, refused-finish, scope-finish, scope-passed}
 use borrow.Author.Needs.{needs}
 use Rattle.nak.proofs.reserve.finishable.Statement.{statement}
 use Rattle.nak.proofs.reserve.finishable.Tie as tie
@@ -15,26 +15,26 @@ judge-pairs-requires c κs = search needs
 enum-known-answer : tie.Need-enum-known-answer
 enum-known-answer c = search needs
 
-enum-known-answer-2 : tie.Need-enum-known-answer-2
-enum-known-answer-2 c = search needs
+enum-told : tie.Need-enum-told
+enum-told c = search needs
 
 scope-fits-requires : tie.Need-scope-fits-requires
 scope-fits-requires c κs = search needs
 
 returns : tie.Need-returns
-returns c = scope-finish _ _ _ _ _ (pairs-passed _ _ _ (ap countAnswer (sym (c .before .before .before .answer2 .given .1)) ∙ c .before .before .before .before .before .judge-pairs .ensures)) (sym (c .before .scope-fits .ensures) ∙ not-true _ (c .if1 .taken))
+returns c = scope-finish _ _ _ _ _ (pairs-passed _ _ _ (ap lengthAnswer (sym (c .before .before .enum-told .given .1)) ∙ c .before .before .before .before .judge-pairs .ensures)) (sym (c .before .scope-fits .ensures) ∙ not-true _ (c .if1 .taken))
 
 keep-requires : tie.Need-keep-requires
-keep-requires c κs = pairs-fit _ _ _ (ap countAnswer (sym (c .before .before .before .answer2 .given .1)) ∙ c .before .before .before .before .before .judge-pairs .ensures)
+keep-requires c κs = pairs-fit _ _ _ (ap lengthAnswer (sym (c .before .before .enum-told .given .1)) ∙ c .before .before .before .before .judge-pairs .ensures)
 
 with-room-requires : tie.Need-with-room-requires
 with-room-requires c κs = search needs
 
 returns-2 : tie.Need-returns-2
-returns-2 c = refused-finish _ _ _ _ _ _ (ap countAnswer (sym (c .before .answer .given .1)) ∙ c .before .before .before .judge-pairs .ensures)
+returns-2 c = refused-finish _ _ _ _ _ _ (ap lengthAnswer (sym (c .before .answer .given .1)) ∙ c .before .before .before .judge-pairs .ensures)
 
 returns-3 : tie.Need-returns-3
-returns-3 c = let e = ap countAnswer (sym (c .before .before .before .before .before .answer2 .given .1)) ∙ c .before .before .before .before .before .before .before .judge-pairs .ensures in c .with-room .ensures ∙ room-decides _ _ _ _ (kept-are _ _ _ e _ (c .before .keep .ensures)) (scope-passed _ _ _ _ (pairs-passed _ _ _ e) (sym (c .before .before .before .scope-fits .ensures) ∙ not-false _ (c .before .before .if1 .left)))
+returns-3 c = c .with-room .ensures ∙ room-decides _ _ _ _ (c .before .keep .ensures) (scope-passed _ _ _ _ (pairs-passed _ _ _ (ap lengthAnswer (sym (c .before .before .before .before .enum-told .given .1)) ∙ c .before .before .before .before .before .before .judge-pairs .ensures)) (sym (c .before .before .before .scope-fits .ensures) ∙ not-false _ (c .before .before .if1 .left)))
 
 pub finishable-spec : {M : Type 1} → statement M
 finishable-spec =
@@ -42,7 +42,7 @@ finishable-spec =
     (tie.spec
     judge-pairs-requires
     enum-known-answer
-    enum-known-answer-2
+    enum-told
     scope-fits-requires
     returns
     keep-requires
