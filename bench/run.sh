@@ -1,10 +1,19 @@
 #!/bin/sh
 # Times port and Rust, both built in release, and prints a table in Markdown. Needs no network.
 #   bench/run.sh
-# CFDP_NAK_LIB=FOLDER (its full path) links the libcfdp_nak.a of that folder; without it `rt staticlib` makes one.
+# CFDP_NAK_LIB=FOLDER (its full path) links the libcfdp_nak.a of that folder; without it `rt staticlib` makes one, and on another machine
+# than x86-64 `bench/archive.sh`.
 set -eu
 here=$(cd "$(dirname "$0")" && pwd)
 oracle=$here/../oracle
-[ -n "${CFDP_NAK_LIB:-}" ] || (cd "$here/.." && rt staticlib cfdp_nak) >&2
+if [ -z "${CFDP_NAK_LIB:-}" ]; then
+    if [ "$(uname -m)" = x86_64 ]; then
+        (cd "$here/.." && rt staticlib cfdp_nak) >&2
+    else
+        "$here/archive.sh" "$oracle/target/archive" >&2
+        CFDP_NAK_LIB=$oracle/target/archive
+        export CFDP_NAK_LIB
+    fi
+fi
 (cd "$oracle" && cargo build --release --offline --target-dir "$oracle/target" -p bench) >&2
 "$oracle/target/release/bench"
