@@ -15,7 +15,7 @@ use borrow.Author.Tests.{ltb-true, ltb-false, lt-ltb, le-ltb}
 use Rattle.fields.specs.Choice.{if_then_else_}
 use Rattle.fields.specs.Answer.{Answer, accepted, short, refused, told, andThen, Test, firstOf}
 use Rattle.fields.specs.Staged.{Staged, accept, refuseIf, need, run, _>>=_, _>>_, tests}
-use Rattle.fields.proofs.Judging.{Passed, told-no, told-as, told-short}
+use Rattle.fields.proofs.Judging.{Passed, told-no, told-as, told-short, told-on}
 use Rattle.fields.specs.Demand3.{Final, firsts, heard, Demand3, AtMost}
 
 pub run-bind : {A B : Type 0} (r : Staged A) (f : A → Staged B) (s : List ℕ) → run (r >>= f) s ≡ andThen (run r s) (λ a. run (f a) s)
@@ -27,6 +27,13 @@ run-bind (need n next) f s = go (ltb (length s) n) (run-bind (next (take n s)) f
     go : (c : Bool) → run (next (take n s) >>= f) s ≡ andThen (run (next (take n s)) s) (λ a. run (f a) s) → (if c then short (length s) n else run (next (take n s) >>= f) s) ≡ andThen (if c then short (length s) n else run (next (take n s)) s) (λ a. run (f a) s)
     go true e = refl
     go false e = e
+
+-- what the first of two readings refuses is refused, and behind what it accepts the second decides
+pub refused-bind : {A B : Type 0} (ns : List ℕ) (r : Staged A) (f : A → Staged B) (s : List ℕ) → told ns ≡ run r s → told ns ≡ run (r >>= f) s
+refused-bind {A} ns r f s e = sym (run-bind r f s ∙ ap (λ (o : Answer A). andThen o (λ a. run (f a) s)) (sym e) ∙ told-on ns (λ a. run (f a) s))
+
+pub accepted-bind : {A B : Type 0} (r : Staged A) (f : A → Staged B) (s : List ℕ) (a : A) → accepted a ≡ run r s → run (f a) s ≡ run (r >>= f) s
+accepted-bind {A} r f s a e = sym (run-bind r f s ∙ ap (λ (o : Answer A). andThen o (λ a. run (f a) s)) (sym e))
 
 -- a refusal stands before whatever is accepted at the end
 pub told-before : {A B : Type 0} (ns : List ℕ) (r : Staged A) (f : A → B) (s : List ℕ) → told ns ≡ run (r >>= λ a. accept (f a)) s → told ns ≡ run r s

@@ -2,12 +2,12 @@
 -- Assumes nothing.
 use mathlib.Core.Path.{_≡_, refl, sym, ap, _∙_}
 use mathlib.Core.List.{List, [], _∷_}
-use Prim.Native.Nat.{ℕ, zero, suc, _+_, _*_, _/_, _%_, _^_, _<_}
+use Prim.Native.Nat.{ℕ, zero, suc, _+_, _*_, _/_, _%_, _^_, _≤_, _<_}
 use native.Mathlib.Nat.{div-add-mod', add-zero, zero-add}
 use native.Mathlib.Omega.{arith}
 use lib.Bits.{bitXor, xor-lt, xor-shifted}
 use lib.ListN.{length, drop, getD}
-use Rattle.fields.specs.Checksum.{bitSteps, byteStep, checksumFrom, entry, entries}
+use Rattle.fields.specs.Checksum.{bitSteps, byteStep, checksumFrom, checksumOf, entry, entries}
 use Rattle.fields.proofs.Xor.{xor-upper}
 use Rattle.fields.proofs.Checksum.{bits-lt, bits-xor, checksum-turn}
 
@@ -54,6 +54,10 @@ by-entry u l b h =
     ∙ bits-xor 8 (bitXor u b * 256) l (omega arith)
     ∙ ap (λ (x : ℕ). bitXor x (l * 256)) (sym (div-add-mod' e 256))
     ∙ xor-upper (e / 256) l (e % 256) (omega arith)
+
+-- the invariant of both loops: at i, the register's two bytes u and l and the bytes that are left give the checksum of the whole
+abbrev pub Register : List ℕ → ℕ → ℕ → ℕ → Type 0
+Register s u l i = (i ≤ length s) × (u < 256) × (l < 256) × (checksumFrom (u * 256 + l) (drop i s) ≡ checksumOf s)
 
 -- a turn of the loop: u and l are the register's bytes, e is the entry, looked up or worked out
 pub table-turn : (u l : ℕ) (s : List ℕ) (i e : ℕ) → l < 256 → i < length s → e ≡ entry (bitXor u (getD s i 0))

@@ -14,7 +14,7 @@ use Rattle.fields.specs.Choice.{if_then_else_}
 use Rattle.fields.specs.Width.{isWidth}
 use Rattle.fields.specs.BigEndian.{Bytes}
 use Rattle.fields.specs.Answer.{Answer, accepted, refused, firstOf, leaves}
-use Rattle.fields.specs.Staged.{accept, run, _>>=_}
+use Rattle.fields.specs.Staged.{accept, run}
 use Rattle.fields.specs.Demand3.{AtMost}
 use Rattle.fields.proofs.Width.{lt-fits}
 use Rattle.fields.proofs.BigEndian.{bytes-take, number-lt}
@@ -26,7 +26,6 @@ use Rattle.header.specs.declared.HeaderResult.{HeaderResult}
 use Rattle.header.specs.declared.HeaderResult.the-variants.{Header, Refused}
 use Rattle.header.specs.declared.LengthResult.{LengthResult}
 use Rattle.header.specs.declared.LengthResult.the-variants.{Length, Refused as NoLength}
-use Rattle.header.specs.declared.directive.DirectivePdu.{DirectivePdu}
 use Rattle.header.specs.declared.directive.DirectiveResult.{DirectiveResult}
 use Rattle.header.specs.declared.directive.DirectiveResult.the-variants.{Directive, Refused as NoDirective}
 use Rattle.header.specs.Answers.{headerAnswer, lengthAnswer, directiveAnswer}
@@ -38,7 +37,7 @@ use Rattle.header.specs.Writing.{outputTests, writingHeader, headerMemor
 use Rattle.header.specs.Demands.{HeaderReadsBack, MemoryReadsBack, ReadIsSound, NamedNeedIsEnough, HeaderDemand3, DirectiveDemand3, OneHeaderResult, OneLengthResult, OneDirectiveResult}
 use Rattle.header.proofs.Judging.{sound, all-right}
 use Rattle.header.proofs.Writing.{enough, written-passed}
-use Rattle.header.proofs.Directives.{directive-two}
+use Rattle.header.proofs.Directives.{pduOf, on, directive-two}
 use Rattle.header.proofs.RoundTrip.{reads-back}
 
 -- ---- one answer
@@ -76,8 +75,8 @@ header-demand3 = demand3 (run readingHeader) 2 readingHeader header-two (λ s. r
 directive-four : AtMost readingDirectivePdu 4
 unfolding readingDirectivePdu verifyingDirective
 directive-four =
-    at-most-bind readingHeader (λ h. verifyingDirective h >>= λ end. accept (record { header = h; end = end })) 2 2 header-two
-    (λ h. at-most-bind (verifyingDirective h) (λ end. accept (record { header = h; end = end })) 2 0 (at-most-bind (directiveBytes h) (λ _. accept (dataEnd h)) 2 0 (directive-two h) (λ _. tt)) (λ _. tt))
+    at-most-bind readingHeader on 2 2 header-two
+    (λ h. at-most-bind (verifyingDirective h) (λ end. accept (pduOf h end)) 2 0 (at-most-bind (directiveBytes h) (λ _. accept (dataEnd h)) 2 0 (directive-two h) (λ _. tt)) (λ _. tt))
 
 pub directive-demand3 : DirectiveDemand3
 directive-demand3 = demand3 (run readingDirectivePdu) 4 readingDirectivePdu directive-four (λ s. refl)

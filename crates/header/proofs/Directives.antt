@@ -8,8 +8,8 @@ use borrow.Author.Tests.{lt-ltb, le-ltb, ltb-false}
 use Rattle.fields.specs.Answer.{Answer, accepted, short, refused, told, andThen, Test, firstOf}
 use Rattle.fields.specs.Staged.{Staged, accept, run, _>>=_}
 use Rattle.fields.specs.Demand3.{AtMost}
-use Rattle.fields.proofs.Judging.{Passed, same-accepted, passed, passed-first, passed-last, passed-on, told-as, told-short, refused-on, told-on}
-use Rattle.fields.proofs.Staged.{run-bind, told-before, both, passed-all, at-most-bind}
+use Rattle.fields.proofs.Judging.{Passed, same-accepted, passed, passed-first, passed-last, passed-on, told-as, told-short, refused-on}
+use Rattle.fields.proofs.Staged.{run-bind, refused-bind, accepted-bind, told-before, both, passed-all, at-most-bind}
 use Rattle.header.specs.declared.PduHeader.{PduHeader}
 use Rattle.header.specs.declared.directive.DirectivePdu.{DirectivePdu}
 use Rattle.header.specs.declared.flags.PduType.the-variants.{FileDirective, FileData}
@@ -30,19 +30,14 @@ use Rattle.header.proofs.Verifying.{Verified, verified-refused, pdu-one
 module _ (h : PduHeader) (s : List ℕ) where
   pub refused-verified : (ns : List ℕ) → told ns ≡ run (verifyingRead h) s → told ns ≡ run (verifyingDirective h) s
   unfolding verifyingDirective directiveBytes
-  refused-verified ns e =
-      sym (run-bind (directiveBytes h) _ s
-      ∙ ap (λ (o : Answer (List ℕ)). andThen o (λ _. accepted (dataEnd h)))
-      (run-bind (pduBytes h) (directivePart h) s ∙ ap (λ (o : Answer (List ℕ)). andThen o (λ p. run (directivePart h p) s)) (sym (verified-refused h s ns e)) ∙ told-on ns _)
-      ∙ told-on ns _)
+  refused-verified ns e = refused-bind ns (directiveBytes h) _ s (refused-bind ns (pduBytes h) (directivePart h) s (verified-refused h s ns e))
 
   module _ (end : ℕ) (v : Verified h s end) where
     rest : run (verifyingDirective h) s ≡ andThen (run (directivePart h (take (pduLength h) s)) s) (λ _. accepted (dataEnd h))
     unfolding verifyingDirective directiveBytes
     rest =
         run-bind (directiveBytes h) _ s
-        ∙ ap (λ (o : Answer (List ℕ)). andThen o (λ _. accepted (dataEnd h)))
-        (run-bind (pduBytes h) (directivePart h) s ∙ ap (λ (o : Answer (List ℕ)). andThen o (λ p. run (directivePart h p) s)) (v .bytes-are))
+        ∙ ap (λ (o : Answer (List ℕ)). andThen o (λ _. accepted (dataEnd h))) (sym (accepted-bind (pduBytes h) (directivePart h) s _ (sym (v .bytes-are))))
 
     pub short-9 : length s < 9 → told (1 ∷ length s ∷ 9 ∷ []) ≡ run (verifyingDirective h) s
     unfolding told directivePart
@@ -69,24 +64,27 @@ module _ (h : PduHeader) (s : List ℕ) where
 
 -- ---- reading a PDU up to its code: the header's refusal, the verification's, or both parts
 
-abbrev on : PduHeader → Staged DirectivePdu
-on h = verifyingDirective h >>= λ end. accept (record { header = h; end = end })
+abbrev pub pduOf : PduHeader → ℕ → DirectivePdu
+pduOf h end = record { header = h; end = end }
+
+abbrev pub on : PduHeader → Staged DirectivePdu
+on h = verifyingDirective h >>= λ end. accept (pduOf h end)
 
 module _ (s : List ℕ) where
   pub no-header : (ns : List ℕ) → told ns ≡ run readingHeader s → told ns ≡ run readingDirectivePdu s
   unfolding readingDirectivePdu
-  no-header ns e = sym (run-bind readingHeader on s ∙ ap (λ (o : Answer PduHeader). andThen o (λ h. run (on h) s)) (sym e) ∙ told-on ns (λ h. run (on h) s))
+  no-header ns e = refused-bind ns readingHeader on s e
 
   module _ (h : PduHeader) (e : accepted h ≡ run readingHeader s) where
-    behind : run readingDirectivePdu s ≡ andThen (run (verifyingDirective h) s) (λ end. accepted (record { header = h; end = end }))
+    behind : run (on h) s ≡ run readingDirectivePdu s
     unfolding readingDirectivePdu
-    behind = run-bind readingHeader on s ∙ ap (λ (o : Answer PduHeader). andThen o (λ h. run (on h) s)) (sym e) ∙ run-bind (verifyingDirective h) (λ end. accept (record { header = h; end = end })) s
+    behind = accepted-bind readingHeader on s h e
 
     pub not-verified : (ns : List ℕ) → told ns ≡ run (verifyingDirective h) s → told ns ≡ run readingDirectivePdu s
-    not-verified ns d = sym (behind ∙ ap (λ (o : Answer ℕ). andThen o (λ end. accepted (record { header = h; end = end }))) (sym d) ∙ told-on ns (λ end. accepted (record { header = h; end = end })))
+    not-verified ns d = refused-bind ns (verifyingDirective h) (λ end. accept (pduOf h end)) s d ∙ behind
 
-    pub directive-read : (end : ℕ) → accepted end ≡ run (verifyingDirective h) s → accepted (record { header = h; end = end }) ≡ run readingDirectivePdu s
-    directive-read end d = sym (behind ∙ ap (λ (o : Answer ℕ). andThen o (λ end. accepted (record { header = h; end = end }))) (sym d))
+    pub directive-read : (end : ℕ) → accepted end ≡ run (verifyingDirective h) s → accepted (pduOf h end) ≡ run readingDirectivePdu s
+    directive-read end d = accepted-bind (verifyingDirective h) (λ end. accept (pduOf h end)) s end d ∙ behind
 
 -- ---- for the readers above
 
@@ -117,30 +115,27 @@ module _ {A : Type 0} (k : PduHeader → List ℕ → Staged A) (s : List ℕ) w
   abbrev next : PduHeader → Staged A
   next h = directiveBytes h >>= k h
 
-  from-header : (o : Answer PduHeader) → run readingHeader s ≡ o → run (readingHeader >>= next) s ≡ andThen o (λ h. run (next h) s)
-  from-header o p = run-bind readingHeader next s ∙ ap (λ (o : Answer PduHeader). andThen o (λ h. run (next h) s)) p
-
-  pub pdu-refused : (ns : List ℕ) → told ns ≡ run readingDirectivePdu s → told ns ≡ run (readingHeader >>= λ h. directiveBytes h >>= k h) s
+  pub pdu-refused : (ns : List ℕ) → told ns ≡ run readingDirectivePdu s → told ns ≡ run (readingHeader >>= next) s
   unfolding readingDirectivePdu
   pdu-refused ns e = go (run readingHeader s) refl (e ∙ run-bind readingHeader on s)
     where
       go : (o : Answer PduHeader) → run readingHeader s ≡ o → told ns ≡ andThen o (λ h. run (on h) s) → told ns ≡ run (readingHeader >>= next) s
       go (accepted h) p d =
-          let b : told ns ≡ run (directiveBytes h) s = directive-refused h s ns (told-before ns (verifyingDirective h) (λ end. record { header = h; end = end }) s d) in
-          sym (from-header (accepted h) p ∙ run-bind (directiveBytes h) (k h) s ∙ ap (λ (o : Answer (List ℕ)). andThen o (λ b. run (k h b) s)) (sym b) ∙ told-on ns (λ b. run (k h b) s))
-      go (short l n) p d = told-short ns l n d ∙ sym (from-header (short l n) p)
-      go (refused ms) p d = told-as ns ms d ∙ sym (from-header (refused ms) p)
+          let b : told ns ≡ run (directiveBytes h) s = directive-refused h s ns (told-before ns (verifyingDirective h) (pduOf h) s d) in
+          refused-bind ns (directiveBytes h) (k h) s b ∙ accepted-bind readingHeader next s h (sym p)
+      go (short l n) p d = refused-bind ns readingHeader next s (told-short ns l n d ∙ sym p)
+      go (refused ms) p d = refused-bind ns readingHeader next s (told-as ns ms d ∙ sym p)
 
   pub pdu-read : (d : DirectivePdu) → accepted d ≡ run readingDirectivePdu s
-      → VerifiedDirective (d .header) s (d .end) × (run (k (d .header) (take (pduLength (d .header)) s)) s ≡ run (readingHeader >>= λ h. directiveBytes h >>= k h) s)
+      → VerifiedDirective (d .header) s (d .end) × (run (k (d .header) (take (pduLength (d .header)) s)) s ≡ run (readingHeader >>= next) s)
   unfolding readingDirectivePdu
   pdu-read d e =
       let m = both readingHeader on s d (sym e) in
       let h = m .mid in
-      let n = both (verifyingDirective h) (λ end. accept (record { header = h; end = end })) s d (m .second) in
-      let is : record { header = h; end = n .mid } ≡ d = same-accepted _ _ (n .second) in
+      let n = both (verifyingDirective h) (λ end. accept (pduOf h end)) s d (m .second) in
+      let is : pduOf h (n .mid) ≡ d = same-accepted _ _ (n .second) in
       let v : VerifiedDirective h s (n .mid) = verified-directive h s (n .mid) (sym (n .first)) in
-      rw (← is) (v, sym (from-header (accepted h) (m .first) ∙ run-bind (directiveBytes h) (k h) s ∙ ap (λ (o : Answer (List ℕ)). andThen o (λ b. run (k h b) s)) (v .bytes-are)))
+      rw (← is) (v, accepted-bind (directiveBytes h) (k h) s _ (sym (v .bytes-are)) ∙ accepted-bind readingHeader next s h (sym (m .first)))
 
 -- a directive PDU asks twice for bytes, and what it hands on are its first P bytes
 pub directive-two : (h : PduHeader) → AtMost (directiveBytes h) 2
@@ -158,9 +153,7 @@ pub directive-passes : (h : PduHeader) (s p : List ℕ) → run (pduBytes h) s �
     → run (directiveBytes h) s ≡ accepted p
 unfolding directiveBytes directivePart
 directive-passes h s p e long e9 kind code =
-    run-bind (pduBytes h) (directivePart h) s
-    ∙ ap (λ (o : Answer (List ℕ)). andThen o (λ p. run (directivePart h p) s)) e
-    ∙ rw (le-ltb _ _ long, le-ltb _ _ e9, ap pduTypeBit kind, le-ltb _ _ code)
+    sym (accepted-bind (pduBytes h) (directivePart h) s p (sym e)) ∙ rw (le-ltb _ _ long, le-ltb _ _ e9, ap pduTypeBit kind, le-ltb _ _ code)
 
 -- ---- writing
 

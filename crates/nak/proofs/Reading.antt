@@ -1,17 +1,16 @@
 -- Reading a NAK: its answer at each exit, and a NAK made of its parts.
 -- Assumes nothing.
 use Prim.Native.Nat.{ℕ, _+_, _-_, _*_, _/_, _≤_, _<_}
-use mathlib.Core.Path.{_≡_, sym, ap, _∙_}
+use mathlib.Core.Path.{_≡_}
 use mathlib.Core.Bool.{Bool, true, false}
 use mathlib.Core.List.{List, [], _∷_}
-use native.Mathlib.Omega.{arith}
 use lib.Dec.{eqb}
 use lib.ListN.{getD, take}
 use borrow.Author.Tests.{lt-ltb, le-ltb}
 use Rattle.fields.specs.BigEndian.{numberAt}
-use Rattle.fields.specs.Answer.{Answer, accepted, told, andThen}
+use Rattle.fields.specs.Answer.{Answer, accepted, told}
 use Rattle.fields.specs.Staged.{run}
-use Rattle.fields.proofs.Staged.{run-bind}
+use Rattle.fields.proofs.Staged.{accepted-bind}
 use Rattle.header.specs.declared.PduHeader.{PduHeader}
 use Rattle.header.specs.declared.directive.DirectivePdu.{DirectivePdu}
 use Rattle.header.specs.Header.{headerLength, pduLength, dataEnd}
@@ -75,4 +74,4 @@ read-pdu s d e = pdu-read readingDirective s d e
 
 pub read-header : (h : PduHeader) (s : List ℕ) → accepted h ≡ run readingHeader s → run (readingData h) s ≡ run readingNak s
 unfolding readingNak
-read-header h s e = sym (run-bind readingHeader readingData s ∙ ap (λ o. andThen o (λ h. run (readingData h) s)) (sym e))
+read-header h s e = accepted-bind readingHeader readingData s h e

@@ -15,7 +15,7 @@ use Rattle.fields.specs.Answer.{Answer, accepted, short, refused, andThen, Test
 use Rattle.fields.specs.Staged.{run}
 use Rattle.fields.proofs.BigEndian.{be-length, number-back, number-drop, one-byte}
 use Rattle.fields.proofs.Judging.{Passed, passed, passed-first, passed-last, all-passed, same-accepted}
-use Rattle.fields.proofs.Staged.{run-bind}
+use Rattle.fields.proofs.Staged.{accepted-bind}
 use Rattle.header.specs.declared.PduHeader.{PduHeader}
 use Rattle.header.specs.declared.flags.PduType.the-variants.{FileDirective}
 use Rattle.header.specs.declared.flags.Direction.the-variants.{TowardsSender}
@@ -194,10 +194,7 @@ module _ (k : PduHeader) (start end count : ℕ) (area t : List ℕ) (good : Pas
 
   data-run : run (readingData k) (N ++ t) ≡ accepted (nakIn k N)
   unfolding readingData
-  data-run =
-      run-bind (directiveBytes k) (readingDirective k) (N ++ t)
-      ∙ ap (λ (o : Answer (List ℕ)). andThen o (λ p. run (readingDirective k p) (N ++ t))) bytes-run
-      ∙ directive-run
+  data-run = sym (accepted-bind (directiveBytes k) (readingDirective k) (N ++ t) _ (sym bytes-run)) ∙ directive-run
 
   pub over-reads : count ≡ 2 * (count / 2) → run readingNak (nakOver k start end area ++ t) ≡ accepted (readAs k start end (count / 2))
   unfolding N

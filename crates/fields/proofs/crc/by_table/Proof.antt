@@ -1,19 +1,18 @@
--- `fields::crc::by_table` meets its contract. The loop's invariant: the register, which is the two bytes, and the bytes that are left give the checksum of the whole.
+-- `fields::crc::by_table` meets its contract. The loop's invariant is `Register`.
 -- Assumes nothing.
-use mathlib.Core.Path.{_≡_, refl, sym, ap, _∙_}
-use Prim.Native.Nat.{_+_, _*_, _≤_, _<_, _-_}
+use mathlib.Core.Path.{refl, sym, ap, _∙_}
+use Prim.Native.Nat.{_-_}
 use native.Mathlib.Omega.{arith}
 use borrow.Author.Needs.{needs}
-use lib.ListN.{length, drop}
-use Rattle.fields.specs.Checksum.{checksumFrom, checksumOf, entry}
+use lib.ListN.{length}
+use Rattle.fields.specs.Checksum.{checksumOf, entry}
 use Rattle.fields.proofs.Checksum.{checksum-done}
-use Rattle.fields.proofs.Table.{entries-at, entries-lt, upper-lt, table-turn}
+use Rattle.fields.proofs.Table.{Register, entries-at, entries-lt, upper-lt, table-turn}
 use Rattle.fields.proofs.crc.by_table.Statement.{statement}
 use Rattle.fields.proofs.crc.by_table.Tie as tie
 
 abbrev Inv-loop : tie.InvT-loop
-Inv-loop s entries upper₀ lower₀ i₀ upper lower i =
-    (i ≤ length s) × (upper < 256) × (lower < 256) × (checksumFrom (upper * 256 + lower) (drop i s) ≡ checksumOf s)
+Inv-loop s entries upper₀ lower₀ i₀ upper lower i = Register s upper lower i
 
 abbrev μ-loop : tie.MeasureT-loop
 μ-loop s entries upper₀ lower₀ i₀ upper lower i = length s - i
