@@ -130,8 +130,9 @@ fn checksums() {
     vector(annex, &[0x00, 0x00, 0x00]);
     vector(annex, &[0xAB, 0xCD, 0xEF, 0x01]);
     vector(annex, &[0x14, 0x56, 0xF8, 0x9A, 0x00, 0x01]);
-    // The published ones are short; from 64 bytes on the checksum goes by the table.
+    // The published ones are short: eight bytes that go at a time, seven such and seven single bytes, and 64, which go by the table.
     let python = b"Python's binascii.crc_hqx from 0xFFFF";
+    vector(python, &[0xFE, 0xDC, 0xBA, 0x98, 0x76, 0x54, 0x32, 0x10]);
     vector(
         python,
         b"0123456789ABCDEF0123456789ABCDEF0123456789ABCDEF0123456789ABCDE",

@@ -4,7 +4,7 @@ use mathlib.Core.Path.{_≡_, refl, sym, ap, ap₂, _∙_}
 use mathlib.Core.Bool.{Bool, true, false, _&&_, and-false}
 use mathlib.Core.List.{List, [], _∷_, _++_, append-assoc, append-nil}
 use Prim.Native.Nat.{ℕ, zero, suc, _+_, _-_, _*_, _/_, _%_, _^_, _<_, _≤_}
-use native.Mathlib.Nat.{mul-assoc, div-add-mod', pow-suc, pow-le-pow-right, div-lt-iff-lt-mul, add-suc, suc-add, add-zero, zero-add, sub-zero, lt-of-not-le, lt-of-lt-of-le}
+use native.Mathlib.Nat.{mul-assoc, mul-comm, mul-one, add-mul, add-assoc, div-add-mod', pow-suc, pow-le-pow-right, div-lt-iff-lt-mul, add-suc, suc-add, add-zero, zero-add, sub-zero, lt-of-not-le, lt-of-lt-of-le}
 use native.Mathlib.Decide.{decLe}
 use native.Mathlib.Numerals.{add-one}
 use native.Mathlib.Omega.{arith}
@@ -24,6 +24,11 @@ pub be-length : (w v : ℕ) → length (beBytes w v) ≡ w
 unfolding beBytes
 be-length zero v = refl
 be-length (suc w) v = length-append (beBytes w (v / 256)) (v % 256 ∷ []) ∙ add-one _ ∙ ap suc (be-length w (v / 256))
+
+-- a byte is its own byte
+pub one-byte : (v : ℕ) → v < 256 → beBytes 1 v ≡ v ∷ []
+unfolding beBytes
+one-byte v h = ap (λ (b : ℕ). b ∷ []) (omega arith)
 
 -- two numbers side by side are one
 pub be-beside : (m n a b : ℕ) → b < 256 ^ n → beBytes (n + m) (a * 256 ^ n + b) ≡ beBytes m a ++ beBytes n b
@@ -115,6 +120,40 @@ number-lt s at w h =
     let p = be-lt (take w (drop at s)) (bytes-take w (drop at s) (bytes-drop at s h)) in
     let m : length (take w (drop at s)) ≤ w = omega (arith, length-take w (drop at s)) in
     lt-of-lt-of-le p (pow-le-pow-right (omega arith) {i = length (take w (drop at s))} {j = w} m)
+
+-- ---- and their number has them as its bytes
+
+value-cons : (x : ℕ) (xs : List ℕ) → beValue (x ∷ xs) ≡ beFrom x xs
+unfolding beFrom beValue
+value-cons x xs = ap (λ (n : ℕ). beFrom n xs) (zero-add x)
+
+from-value : (v : ℕ) (xs : List ℕ) → beFrom v xs ≡ v * 256 ^ length xs + beValue xs
+unfolding beFrom beValue
+from-value v [] = sym (add-zero (v * 1) ∙ mul-one v)
+from-value v (x ∷ xs) =
+    let P = 256 ^ length xs in
+    let e : v * 256 * P ≡ v * 256 ^ suc (length xs) = rw (pow-suc, mul-comm P 256) (mul-assoc v 256 P) in
+    from-value (v * 256 + x) xs
+    ∙ ap (λ (n : ℕ). n + beValue xs) (add-mul (v * 256) x P ∙ ap (λ (n : ℕ). n + x * P) e)
+    ∙ add-assoc (v * 256 ^ suc (length xs)) (x * P) (beValue xs)
+    ∙ ap (λ (n : ℕ). v * 256 ^ suc (length xs) + n) (sym (from-value x xs) ∙ sym (value-cons x xs))
+
+be-bytes-value : (xs : List ℕ) → Bytes xs → beBytes (length xs) (beValue xs) ≡ xs
+unfolding beBytes
+be-bytes-value [] h = refl
+be-bytes-value (x ∷ xs) h =
+    ap (beBytes (suc (length xs))) (value-cons x xs ∙ from-value x xs)
+    ∙ ap (λ (n : ℕ). beBytes n (x * 256 ^ length xs + beValue xs)) (sym (add-one (length xs)))
+    ∙ be-beside 1 (length xs) x (beValue xs) (be-lt xs (λ i. h (suc i)))
+    ∙ ap₂ (λ (a b : List ℕ). a ++ b) (one-byte x (h 0)) (be-bytes-value xs (λ i. h (suc i)))
+
+-- the bytes at a place are those of the number there
+pub number-bytes : (s : List ℕ) (at w : ℕ) → Bytes s → at + w ≤ length s → beBytes w (numberAt s at w) ≡ take w (drop at s)
+unfolding numberAt
+number-bytes s at w h k =
+    let X = take w (drop at s) in
+    let l : length X ≡ w = omega (arith, length-take w (drop at s), length-drop at s) in
+    ap (λ (n : ℕ). beBytes n (beValue X)) (sym l) ∙ be-bytes-value X (bytes-take w (drop at s) (bytes-drop at s h))
 
 -- ---- the loop of a writer
 
@@ -262,11 +301,6 @@ number-take s n at w h = ap beValue (part-take s n at w h)
 pub number-drop : (s : List ℕ) (at w : ℕ) → numberAt (drop at s) 0 w ≡ numberAt s at w
 unfolding numberAt
 number-drop s at w = refl
-
--- a byte is its own byte
-pub one-byte : (v : ℕ) → v < 256 → beBytes 1 v ≡ v ∷ []
-unfolding beBytes
-one-byte v h = ap (λ (b : ℕ). b ∷ []) (omega arith)
 
 -- ---- runs of stores, one behind the other, with no condition on what stands there (`sets` of the library)
 

@@ -1,14 +1,16 @@
-// The checksum of a PDU, a byte at a time by a table of remainders, which for few bytes are worked out (the Rust's `crc.rs`:
+// The checksum of a PDU, a byte at a time by a table of remainders, and for few bytes worked out, eight at a time (the Rust's `crc.rs`:
 // CRC-16/IBM-3740; the standard's section 4.1).
 ghost use mathlib.Core.Path.{_≡_};
 ghost use Prim.Native.Nat.{_/_, _%_, _<_};
 ghost use lib.Bits.{bitXor};
-ghost use Rattle.fields.specs.Checksum.{entry, entries, checksumOf};
+ghost use Rattle.fields.specs.BigEndian.{beBytes};
+ghost use Rattle.fields.specs.Checksum.{entries, checksumFrom, checksumOf};
+use crate::be;
 
 // The register before the first byte.
 const START: usize = 0xFFFF;
 
-// Below so many bytes an entry is worked out and not looked up: for a look-up all of the table is copied first.
+// Below so many bytes the checksum is worked out: for a look-up all of the table is copied first.
 const TABLE_FROM: usize = 64;
 
 // The 256 entries of the table: entry i is the remainder that eight single-bit steps give for i in the upper byte.
@@ -26,40 +28,39 @@ fn index(upper: usize, byte: u8) -> usize
     upper ^ byte as usize
 }
 
-// The upper byte of an entry, worked out: `x` is the quotient by the generator, so that the entry, which is the remainder, is the
-// lower sixteen bits of `(x << 12) ^ (x << 5) ^ x`.
-fn upper_of(i: u8) -> u8
-    ensures { λ r. ⌜ r ≡ entry i / 256 ⌝ }
+// What the eight bytes of q leave of a register of zeros: the remainder of q times x^16. The top four bits of q are its quotient's by the
+// generator, and each line makes twice as many right; then so many times the generator are taken off.
+fn remainder(q: u64) -> u64
+    ensures { λ r. ⌜ r ≡ checksumFrom 0 (beBytes 8 q) ⌝ }
 {
-    let x = i ^ (i >> 4);
-    (x >> 3) ^ (x << 4)
+    let top8 = q ^ (q >> 4) ^ (q >> 11) ^ (q >> 16);
+    let top16 = top8 ^ (top8 >> 8) ^ (top8 >> 22) ^ (top8 >> 32);
+    let top32 = top16 ^ (top16 >> 16) ^ (top16 >> 44);
+    let quotient = top32 ^ (top32 >> 32);
+    (quotient ^ (quotient << 5) ^ (quotient << 12)) % 65536
 }
 
-// Its lower byte.
-fn lower_of(i: u8) -> u8
-    ensures { λ r. ⌜ r ≡ entry i % 256 ⌝ }
-{
-    let x = i ^ (i >> 4);
-    (x << 5) ^ x
-}
-
-// The checksum of all bytes of `s`, each entry worked out.
+// The checksum of all bytes of `s`, worked out: eight at a time, with the register before them in the first two, and the last few one at
+// a time.
 fn worked_out(s: &[u8]) -> u16
     ensures { λ r. ⌜ r ≡ checksumOf (now (s .entry)) ⌝ }
 {
-    let mut upper = (START / 256) as u8;
-    let mut lower = (START % 256) as u8;
+    let mut register = START as u64;
     let mut i = 0;
+    while 8 <= s.len() - i {
+        let word = be::read_be(&s[i..i + 8], 0, 8);
+        register = remainder((register << 48) ^ word);
+        i += 8;
+    }
     while i < s.len() {
-        let k = upper ^ s[i];
-        upper = upper_of(k) ^ lower;
-        lower = lower_of(k);
+        let upper = (register / 256) ^ s[i] as u64;
+        register = remainder(upper) ^ (register % 256 * 256);
         i += 1;
     }
-    upper as u16 * 256 + lower as u16
+    register as u16
 }
 
-// The same, each entry looked up. The register goes as its two bytes, each as wide as an index: from an entry to the next index
+// The same by the table, a byte at a time. The register goes as its two bytes, each as wide as an index: from an entry to the next index
 // it is then one shift and one exclusive or.
 fn by_table(s: &[u8]) -> u16
     ensures { λ r. ⌜ r ≡ checksumOf (now (s .entry)) ⌝ }
