@@ -3,7 +3,7 @@
 use Prim.Native.Nat.{ℕ}
 use mathlib.Core.Path.{_≡_, refl, ap, ap₂}
 use mathlib.Core.Bool.{Bool, true, false}
-use mathlib.Core.List.{List, [], _∷_, _++_}
+use mathlib.Core.List.{List, [], _∷_, _++_, append-nil}
 use native.Mathlib.Omega.{arith}
 use lib.Dec.{eqb}
 use lib.ListN.{getD}
@@ -53,6 +53,11 @@ passed-on (t ∷ ts) us a p = rw (p .0) (passed-on ts us a (p .1))
 pub all-passed : {A : Type 0} (ts : List Test) (a : A) → Passed ts → firstOf ts a ≡ accepted a
 all-passed [] a p = refl
 all-passed (t ∷ ts) a p = rw (p .0) (all-passed ts a (p .1))
+
+-- and where they stand between others, they may be left out
+pub passed-between : {A : Type 0} (ts us vs : List Test) (a : A) → Passed us → firstOf ((ts ++ us) ++ vs) a ≡ firstOf (ts ++ vs) a
+passed-between [] us vs a p = passed-on us vs a p
+passed-between {A} (t ∷ ts) us vs a p = ap (λ (o : Answer A). if t .holds then refused (t .says) else o) (passed-between ts us vs a p)
 
 -- none of the tests says a refusal of that number
 abbrev pub NoneSays : ℕ → List Test → Type 0
@@ -123,6 +128,16 @@ module _ {A B : Type 0} (ns : List ℕ) where
       go true = refl
       go false = refl
 
+-- a refusal of tests that stand behind others: those come first
+pub refused-behind : {A B C : Type 0} (ns : List ℕ) (ts us : List Test) (a : A) (b : B) (c : C) → told ns ≡ firstOf us a → andThen (firstOf ts b) (λ _. told ns) ≡ firstOf (ts ++ us) c
+refused-behind ns [] us a b c e = rw (append-nil us) at (refused-on ns us [] a c e)
+refused-behind {A} {B} {C} ns (t ∷ ts) us a b c e = go (t .holds) (refused-behind ns ts us a b c e)
+  where
+    go : (d : Bool) → andThen (firstOf ts b) (λ _. told ns) ≡ firstOf (ts ++ us) c
+        → andThen (if d then refused (t .says) else firstOf ts b) (λ _. told ns) ≡ (if d then refused (t .says) else firstOf (ts ++ us) c)
+    go true r = refl
+    go false r = r
+
 -- a refused write changes no byte
 pub told-leaves : {A : Type 0} (ns : List ℕ) (o : Answer A) (bytes : A → List ℕ) (s : List ℕ) → told ns ≡ o → s ≡ leaves o bytes s
 unfolding told
@@ -131,6 +146,12 @@ told-leaves {A} ns o bytes s e = go (eqb (getD ns 0 0) 1) e
     go : (c : Bool) → _≡_ {A = Answer A} (if c then short (getD ns 1 0) (getD ns 2 0) else refused ns) o → s ≡ leaves o bytes s
     go true d = ap (λ (a : Answer A). leaves a bytes s) d
     go false d = ap (λ (a : Answer A). leaves a bytes s) d
+
+-- nor does a refusal behind whatever comes first
+pub behind-leaves : {A B : Type 0} (o : Answer A) (ns : List ℕ) (bytes : B → List ℕ) (s : List ℕ) → s ≡ leaves (andThen o (λ _. told ns)) bytes s
+behind-leaves (accepted a) ns bytes s = told-leaves ns (told ns) bytes s refl
+behind-leaves (short l n) ns bytes s = refl
+behind-leaves (refused ms) ns bytes s = refl
 
 -- what is the same of every refusal
 pub told-either : {A X : Type 0} (f : Answer A → X) (x : X) (ns : List ℕ) → ((l n : ℕ) → f (short l n) ≡ x) → ((ms : List ℕ) → f (refused ms) ≡ x) → f (told ns) ≡ x

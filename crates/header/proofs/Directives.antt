@@ -3,12 +3,15 @@
 use Prim.Native.Nat.{ℕ, _+_, _≤_, _<_}
 use mathlib.Core.Path.{_≡_, refl, sym, ap, _∙_}
 use mathlib.Core.List.{List, [], _∷_, _++_}
-use lib.ListN.{length, take}
+use native.Mathlib.Nat.{zero-add}
+use native.Mathlib.Omega.{arith}
+use lib.ListN.{length, take, drop}
+use lib.Seq.{sets, sets-eq}
 use borrow.Author.Tests.{lt-ltb, le-ltb, ltb-false}
-use Rattle.fields.specs.Answer.{Answer, accepted, short, refused, told, andThen, Test, firstOf}
+use Rattle.fields.specs.Answer.{Answer, accepted, short, refused, told, andThen, Test, firstOf, leaves}
 use Rattle.fields.specs.Staged.{Staged, accept, run, _>>=_}
 use Rattle.fields.specs.Demand3.{AtMost}
-use Rattle.fields.proofs.Judging.{Passed, same-accepted, passed, passed-first, passed-last, passed-on, told-as, told-short, refused-on}
+use Rattle.fields.proofs.Judging.{Passed, same-accepted, passed, passed-first, passed-last, passed-on, told-as, told-short, refused-on, told-leaves}
 use Rattle.fields.proofs.Staged.{run-bind, refused-bind, accepted-bind, told-before, both, passed-all, at-most-bind}
 use Rattle.header.specs.declared.PduHeader.{PduHeader}
 use Rattle.header.specs.declared.directive.DirectivePdu.{DirectivePdu}
@@ -16,13 +19,14 @@ use Rattle.header.specs.declared.flags.PduType.the-variants.{FileDirecti
 use Rattle.header.specs.declared.flags.Direction.{Direction}
 use Rattle.header.specs.declared.flags.LargeFileFlag.{LargeFileFlag}
 use Rattle.header.specs.Flags.{pduTypeBit, pduTypeIf}
-use Rattle.header.specs.Header.{headerLength, pduLength, dataEnd, withDirection, withFileFlag, withLength}
+use Rattle.header.specs.Header.{headerLength, headerBytes, pduLength, dataEnd, withDirection, withFileFlag, withLength}
 use Rattle.header.specs.Judging.{recordTests, judging}
 use Rattle.header.specs.Reading.{readingHeader}
 use Rattle.header.specs.Verifying.{pduBytes, verifyingRead}
-use Rattle.header.specs.Directive.{notADirective, directivePart, directiveBytes, verifyingDirective, readingDirectivePdu, directiveTests, judgingDirective}
+use Rattle.header.specs.Directive.{notADirective, directivePart, directiveBytes, verifyingDirective, readingDirectivePdu, directiveTests, judgingDirective, noRoom, writingDirective, directiveMemory}
 use Rattle.header.proofs.FlagBits.{pduType-back}
 use Rattle.header.proofs.Judging.{with-tests, refused-first}
+use Rattle.header.proofs.Writing.{header-length, in-front}
 use Rattle.header.proofs.Verifying.{Verified, verified-refused, pdu-one}
 
 -- ---- reading: what is not verified is refused, and behind what is verified the tests decide
@@ -196,3 +200,57 @@ directive-kind h p = sym (pduType-back (h .kind)) ∙ ap pduTypeIf (passed-last 
 pub with-directive : (d : Direction) (f : LargeFileFlag) (l : ℕ) (h : PduHeader) → directiveTests (withLength l (withFileFlag f (withDirection d h))) ≡ directiveTests h
 unfolding directiveTests
 with-directive d f l h = ap (λ (ts : List Test). ts ++ (notADirective h ∷ [])) (with-tests d f l h)
+
+-- ---- writing the header of a PDU that the buffer holds
+
+pub refused-room : (h : PduHeader) (room : ℕ) (ns : List ℕ) → told ns ≡ judgingDirective h → told ns ≡ writingDirective h room
+unfolding writingDirective
+refused-room h room ns e = refused-directive h (noRoom room h ∷ []) (pduLength h) ns e
+
+module _ (h : PduHeader) (good : Passed (directiveTests h)) (room p : ℕ) (is : p ≡ pduLength h) where
+  room-decides : writingDirective h room ≡ firstOf (noRoom room h ∷ []) (pduLength h)
+  unfolding writingDirective
+  room-decides = passed-on (directiveTests h) (noRoom room h ∷ []) (pduLength h) good
+
+  pub short-of-pdu : room < p → told (11 ∷ room ∷ p ∷ []) ≡ writingDirective h room
+  unfolding told
+  short-of-pdu l = rw (room-decides, ← is, lt-ltb _ _ l)
+
+  pub holds-pdu : p ≤ room → accepted p ≡ writingDirective h room
+  holds-pdu l = rw (room-decides, ← is, le-ltb _ _ l)
+
+-- a refused write changes no byte
+pub nothing-begun : (h : PduHeader) (s ns : List ℕ) → told ns ≡ writingDirective h (length s) → (told ns ≡ writingDirective h (length s)) × (s ≡ directiveMemory h s)
+unfolding directiveMemory
+nothing-begun h s ns e = (e, told-leaves ns (writingDirective h (length s)) (λ _. headerBytes h) s e)
+
+-- an accepted one: the record passed every test, and the buffer holds the PDU
+module _ (h : PduHeader) (room n : ℕ) (e : accepted n ≡ writingDirective h room) where
+  begun : Passed (directiveTests h ++ (noRoom room h ∷ [])) × (n ≡ pduLength h)
+  unfolding writingDirective
+  begun = passed (directiveTests h ++ (noRoom room h ∷ [])) n (pduLength h) e
+
+  pub begun-passed : Passed (directiveTests h)
+  begun-passed = passed-first (directiveTests h) (noRoom room h ∷ []) (begun .0)
+
+  pub begun-room : pduLength h ≤ room
+  begun-room = ltb-false _ _ (passed-last (directiveTests h) (noRoom room h ∷ []) (begun .0) .0)
+
+  pub begun-length : n ≡ pduLength h
+  begun-length = begun .1
+
+  pub begun-header : headerLength h ≤ room
+  unfolding pduLength
+  begun-header = omega (arith, begun-room)
+
+pub header-begun : (h : PduHeader) (s b : List ℕ) (n : ℕ) → accepted n ≡ writingDirective h (length s) → b ≡ headerBytes h ++ drop (headerLength h) s
+    → (accepted n ≡ writingDirective h (length s)) × (b ≡ directiveMemory h s)
+unfolding directiveMemory
+header-begun h s b n e q = (e, in-front h s b n (writingDirective h (length s)) e q)
+
+-- for the writers above: the header's bytes are then stored in front
+pub begun-stored : (h : PduHeader) (s b : List ℕ) (n : ℕ) → accepted n ≡ writingDirective h (length s) → b ≡ directiveMemory h s → b ≡ sets s 0 (headerBytes h)
+unfolding directiveMemory
+begun-stored h s b n e q =
+    let l : 0 + length (headerBytes h) ≤ length s = omega (arith, header-length h, begun-header h (length s) n e) in
+    q ∙ ap (λ (o : Answer ℕ). leaves o (λ _. headerBytes h) s) (sym e) ∙ sym (sets-eq (headerBytes h) s 0 l ∙ rw zero-add)

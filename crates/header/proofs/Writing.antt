@@ -4,9 +4,7 @@ use Prim.Native.Nat.{ℕ, _+_, _*_, _^_, _≤_, _<_}
 use mathlib.Core.Path.{_≡_, refl, sym, ap, _∙_}
 use mathlib.Core.List.{List, [], _∷_, _++_}
 use native.Mathlib.Omega.{arith}
-use native.Mathlib.Nat.{zero-add}
 use lib.ListN.{length, drop, length-append}
-use lib.Seq.{sets, sets-eq}
 use borrow.Author.Tests.{lt-ltb, le-ltb, ltb-false}
 use Rattle.fields.specs.BigEndian.{beBytes, bePut}
 use Rattle.fields.specs.Answer.{Answer, accepted, told, firstOf, leaves}
@@ -91,22 +89,17 @@ written-room h room n e =
     let p = passed (outputTests h room) n (headerLength h) (e ∙ rest h (written-passed h room n e) room) in
     ltb-false _ _ (p .0 .0)
 
--- and the buffer then has the header's bytes in front, the rest as it was
+-- and the buffer then has the header's bytes in front, the rest as it was, whatever else the writer's answer depends on
+pub in-front : (h : PduHeader) (s b : List ℕ) (n : ℕ) (o : Answer ℕ) → accepted n ≡ o → b ≡ headerBytes h ++ drop (headerLength h) s → b ≡ leaves o (λ _. headerBytes h) s
+in-front h s b n o e q = q ∙ ap (λ (k : ℕ). headerBytes h ++ drop k s) (sym (header-length h)) ∙ ap (λ (x : Answer ℕ). leaves x (λ _. headerBytes h) s) e
+
 pub accepted-write : (h : PduHeader) (s b : List ℕ) (n : ℕ) → accepted n ≡ writingHeader h (length s) → b ≡ headerBytes h ++ drop (headerLength h) s
     → (accepted n ≡ writingHeader h (length s)) × (b ≡ headerMemory h s)
 unfolding headerMemory
-accepted-write h s b n e q =
-    let m : headerBytes h ++ drop (length (headerBytes h)) s ≡ leaves (writingHeader h (length s)) (λ _. headerBytes h) s = ap (λ (o : Answer ℕ). leaves o (λ _. headerBytes h) s) e in
-    (e, q ∙ ap (λ (k : ℕ). headerBytes h ++ drop k s) (sym (header-length h)) ∙ m)
+accepted-write h s b n e q = (e, in-front h s b n (writingHeader h (length s)) e q)
 
--- ---- for the writers above: a record that passed, into a buffer that holds it
+-- ---- for the writers above
 
 pub with-length : (d : Direction) (f : LargeFileFlag) (l : ℕ) (h : PduHeader) → headerLength (withLength l (withFileFlag f (withDirection d h))) ≡ headerLength h
 unfolding headerLength
 with-length d f l h = refl
-
-pub header-stored : (h : PduHeader) (s b : List ℕ) → Passed (recordTests h) → headerLength h ≤ length s → b ≡ headerMemory h s → b ≡ sets s 0 (headerBytes h)
-header-stored h s b good room e =
-    let w = enough h good (length s) room in
-    let l : 0 + length (headerBytes h) ≤ length s = omega (arith, header-length h) in
-    e ∙ sym (accepted-write h s _ (headerLength h) w refl .1) ∙ ap (λ (k : ℕ). headerBytes h ++ drop k s) (sym (header-length h)) ∙ sym (sets-eq (headerBytes h) s 0 l ∙ rw zero-add)

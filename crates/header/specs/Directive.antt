@@ -2,12 +2,13 @@
 use Prim.Native.Nat.{ℕ, _+_}
 use mathlib.Core.List.{List, [], _∷_, _++_}
 use lib.Dec.{eqb, ltb}
-use Rattle.fields.specs.Answer.{Answer, Test, when, firstOf}
+use lib.ListN.{length}
+use Rattle.fields.specs.Answer.{Answer, Test, when, firstOf, leaves}
 use Rattle.fields.specs.Staged.{Staged, accept, _>>=_, _>>_, bytes, test}
 use Rattle.header.specs.declared.PduHeader.{PduHeader}
 use Rattle.header.specs.declared.directive.DirectivePdu.{DirectivePdu}
 use Rattle.header.specs.Flags.{pduTypeBit}
-use Rattle.header.specs.Header.{headerLength, dataEnd}
+use Rattle.header.specs.Header.{headerLength, headerBytes, pduLength, dataEnd}
 use Rattle.header.specs.Judging.{recordTests}
 use Rattle.header.specs.Reading.{readingHeader}
 use Rattle.header.specs.Verifying.{pduBytes}
@@ -59,3 +60,15 @@ directiveTests h = recordTests h ++ (notADirective h ∷ [])
 -- those; else h
 unfoldable pub judgingDirective : PduHeader → Answer ℕ
 judgingDirective h = firstOf (directiveTests h) (headerLength h)
+
+-- 11: output buffer short, needing the whole PDU
+abbrev pub noRoom : ℕ → PduHeader → Test
+noRoom room h = when (ltb room (pduLength h)) (11 ∷ room ∷ pduLength h ∷ [])
+
+-- the header of a PDU that the buffer holds: those, then 11; else the PDU's length
+unfoldable pub writingDirective : PduHeader → ℕ → Answer ℕ
+writingDirective h room = firstOf (directiveTests h ++ (noRoom room h ∷ [])) (pduLength h)
+
+-- the buffer at exit: the header's bytes in front, the rest as it was; a refusal changes nothing
+unfoldable pub directiveMemory : PduHeader → List ℕ → List ℕ
+directiveMemory h s = leaves (writingDirective h (length s)) (λ _. headerBytes h) s

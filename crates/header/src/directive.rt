@@ -1,14 +1,17 @@
 // What all directive PDUs share: their reader's tests before the directive code, and their writer's judgement of a record. File data, PDU type 1, is refusal 21.
 ghost use mathlib.Core.Path.{_≡_};
+ghost use lib.ListN.{length};
 ghost use Rattle.fields.specs.Staged.{run};
 ghost use Rattle.header.specs.Answers.{lengthAnswer, directiveAnswer};
-ghost use Rattle.header.specs.Directive.{verifyingDirective, readingDirectivePdu, judgingDirective};
+ghost use Rattle.header.specs.Directive.{verifyingDirective, readingDirectivePdu, judgingDirective, writingDirective, directiveMemory};
 use crate::HeaderResult;
 use crate::LengthResult;
 use crate::PduHeader;
 use crate::PduType;
 use crate::read::header_in;
 use crate::read::length_in;
+use crate::write::no_room;
+use crate::write::put_header;
 use fields::Refusal;
 
 // A directive code and a normal scope: the fewest bytes that the Rust asks for.
@@ -101,6 +104,38 @@ impl PduHeader {
                 }
                 LengthResult::Length(self.header_len())
             }
+        }
+    }
+
+    // Its header, into a buffer that holds all of the PDU: the PDU's length. A refused write changes no byte.
+    pub fn write_directive_header(self, buf: &mut [u8]) -> LengthResult
+        ensures answered { λ r. ⌜ lengthAnswer r ≡ writingDirective self (length (now (buf .entry))) ⌝ }
+        ensures stored { λ _. ⌜ now (buf .exit) ≡ directiveMemory self (now (buf .entry)) ⌝ }
+    {
+        let answer = writable(self, buf.len());
+        match answer {
+            LengthResult::Refused(refusal) => LengthResult::Refused(refusal),
+            LengthResult::Length(length) => {
+                put_header(self, buf);
+                LengthResult::Length(length)
+            }
+        }
+    }
+}
+
+// The PDU's length, or why its header cannot be written into so many bytes.
+fn writable(h: PduHeader, room: usize) -> LengthResult
+    ensures { λ r. ⌜ lengthAnswer r ≡ writingDirective h room ⌝ }
+{
+    let judged = h.judged_directive();
+    match judged {
+        LengthResult::Refused(refusal) => LengthResult::Refused(refusal),
+        LengthResult::Length(_) => {
+            let length = h.pdu_len();
+            if room < length {
+                return no_room(room, length);
+            }
+            LengthResult::Length(length)
         }
     }
 }

@@ -52,7 +52,7 @@ fn fourth_byte(h: PduHeader) -> u8
 }
 
 // The header's bytes, at the front of the buffer.
-fn put_header(h: PduHeader, buf: &mut [u8])
+pub(crate) fn put_header(h: PduHeader, buf: &mut [u8])
     requires { ⌜ Sound h × (headerLength h ≤ length (now buf)) ⌝ }
     ensures { λ _. ⌜ now (buf .exit) ≡ headerBytes h ++ drop (headerLength h) (now (buf .entry)) ⌝ }
 {
@@ -74,7 +74,7 @@ fn put_header(h: PduHeader, buf: &mut [u8])
     be::write_be(buf, third, entity, destination_id);
 }
 
-fn no_room(found: usize, expected: usize) -> LengthResult
+pub(crate) fn no_room(found: usize, expected: usize) -> LengthResult
     ensures { λ r. ⌜ r ≡ LengthResult.Refused (Refusal.ToSliceTooSmall found expected) ⌝ }
 {
     LengthResult::Refused(Refusal::ToSliceTooSmall { found, expected })

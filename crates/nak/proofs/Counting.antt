@@ -22,7 +22,7 @@ use Rattle.nak.specs.declared.write.NakWritten.{NakWritten}
 use Rattle.nak.specs.Nak.{pairSize, areaStart}
 use Rattle.nak.specs.Writing.{dataLength, mostPairs, filled, scopeFits, intoRoom, writingNak}
 use Rattle.nak.specs.Counting.{leastPacket, packetTooSmall, bySize, mostRequests, ofPairs, JustFit, MostRequestsFit}
-use Rattle.nak.proofs.Writing.{ToWrite, to-write, judged-nak, into-room}
+use Rattle.nak.proofs.Writing.{ToWrite, to-write, own-pass, judged-nak, into-room}
 
 pub least-is : (h : PduHeader) (a b : ℕ) → a ≡ areaStart h → b ≡ crcBit (h .crc) → a + 2 * b ≡ leastPacket h
 unfolding leastPacket
@@ -88,7 +88,7 @@ module _ (h : PduHeader) (start end size n : ℕ) (scope : scopeFits (h .file) s
       let k : m ≤ min (bySize h size) (mostPairs (h .file)) = rw (c .1) at l in
       let b : (m ≤ bySize h size) × (m ≤ mostPairs (h .file)) = (omega arith, omega arith) in
       let half : (2 * m) / 2 ≡ m = omega arith in
-      let j = judged-nak (h .file) h start end (2 * m) (c .0 .0) (omega arith) scope (mostPairs (h .file)) refl (rw half (b .1)) in
+      let j = judged-nak (h .file) h start end (2 * m) (c .0 .0) (own-pass (h .file) start end (2 * m) (omega arith) scope (rw half (b .1))) in
       let room : pduLength (filled (h .file) m h) ≤ size = omega (arith, length-of h m, pairs-in (h .file) (size - leastPacket h) m (b .0), c .0 .1) in
       sym (into-room (h .file) h start end (2 * m) size (filled (h .file) m h) (ap (λ (k : ℕ). accepted (filled (h .file) k h)) (sym half) ∙ j))
       ∙ rw (le-ltb _ _ room)

@@ -1,25 +1,28 @@
 -- Reserving and finishing: the answer at each exit, that what can be finished could be written, and what finishing leaves in the buffer.
 -- Assumes nothing.
 use Prim.Native.Nat.{ℕ, _*_, _/_, _≤_, _<_}
-use mathlib.Core.Path.{_≡_, refl, sym, ap, _∙_}
+use mathlib.Core.Path.{_≡_, sym, ap, _∙_}
 use mathlib.Core.Bool.{true, false}
 use mathlib.Core.List.{List, [], _∷_, _++_, append-nil}
 use native.Mathlib.Omega.{arith}
 use lib.ListN.{length}
+use lib.Seq.{sets}
 use borrow.Author.Tests.{lt-ltb, le-ltb, ltb-false, not-false}
-use Rattle.fields.specs.Answer.{Answer, accepted, told, Test, firstOf, leaves}
-use Rattle.fields.proofs.Judging.{Passed, passed, all-passed, passed-first, passed-last, passed-on, refused-on, told-leaves}
+use Rattle.fields.specs.Answer.{Answer, accepted, told, andThen, Test, firstOf, leaves}
+use Rattle.fields.proofs.Judging.{Passed, passed, all-passed, passed-first, passed-last, passed-on, refused-on, told-leaves, behind-leaves}
 use Rattle.header.specs.declared.PduHeader.{PduHeader}
 use Rattle.header.specs.Header.{headerLength, pduLength, dataEnd}
-use Rattle.header.specs.Directive.{directiveTests, judgingDirective}
-use Rattle.header.proofs.Directives.{refused-directive}
+use Rattle.header.specs.Directive.{directiveTests, judgingDirective, noRoom, writingDirective, directiveMemory}
+use Rattle.header.specs.declared.flags.LargeFileFlag.{LargeFileFlag}
+use Rattle.header.specs.Verifying.{crcAdded}
+use Rattle.header.proofs.Directives.{refused-directive, nothing-begun, begun-length}
 use Rattle.nak.specs.declared.write.NakWritten.{NakWritten}
 use Rattle.nak.specs.declared.reserve.ReservedNak.{ReservedNak}
 use Rattle.nak.specs.Nak.{areaStart}
-use Rattle.nak.specs.Writing.{nakOver, mostPairs, filled, scopeFits, scopeTooLarge, tooMany, noRoom, judgingNak, intoRoom, writingNak}
-use Rattle.nak.specs.Reserving.{pairTests, keeping, placed, reserving, finishTests, finishing, areaIn, finishedMemory}
+use Rattle.nak.specs.Writing.{nakOver, mostPairs, filled, scopeFits, tooMany, scopeBytes, judgingNak, intoRoom, writingNak}
+use Rattle.nak.specs.Reserving.{pairTests, keeping, placed, reserving, ownFinish, finishTests, finishing, areaIn, finishedMemory}
 use Rattle.nak.specs.Within.{lengthInto}
-use Rattle.nak.proofs.Writing.{handed-back, around, judged-nak, into-room, refused-length, refused-into, length-into, length-passed}
+use Rattle.nak.proofs.Writing.{handed-back, around, own-pass, judged-nak, into-room, refused-into, length-into, length-passed, begun-into, refused-into-first, scope-room, begun-sets, filled-area, filled-flag, ToWrite, to-write, area-before, stored-around}
 
 -- ---- the judgement of the pairs
 
@@ -44,7 +47,7 @@ module _ (h : PduHeader) (n : ℕ) where
     judged-pairs l = rw (rest, ← pm, le-ltb _ _ l)
 
   -- what passed has no more pairs than fit
-  pub few-pairs : Passed (pairTests h n) → n ≤ mostPairs (h .file)
+  few-pairs : Passed (pairTests h n) → n ≤ mostPairs (h .file)
   unfolding pairTests
   few-pairs p = ltb-false _ _ (passed-last (directiveTests h) (tooMany (h .file) n ∷ []) p .0)
 
@@ -79,73 +82,106 @@ module _ (h : PduHeader) (n room : ℕ) where
 
 -- ---- finishing
 
-pub scope-passed : (h : PduHeader) (n start end : ℕ) → Passed (pairTests h n) → scopeFits (h .file) start end ≡ true → Passed (finishTests h n start end)
-unfolding finishTests
-scope-passed h n start end good s =
-    let us = scopeTooLarge (h .file) start end ∷ [] in
-    let a : accepted n ≡ firstOf (pairTests h n ++ us) n = rw (passed-on (pairTests h n) us n good, s) in
-    passed (pairTests h n ++ us) n n a .0
+-- finishing's own tests
+module _ (file : LargeFileFlag) (n start end : ℕ) where
+  abbrev own-as : Answer ℕ
+  own-as = firstOf (ownFinish file n start end) n
 
-module _ (h : PduHeader) (n start end room : ℕ) where
-  pub refused-finish : (ns : List ℕ) → told ns ≡ firstOf (pairTests h n) (headerLength h) → told ns ≡ lengthInto (finishTests h n start end) (keeping h n) room
+  module _ (most : ℕ) (pm : most ≡ mostPairs file) where
+    pub many-finish : most < n → told (10 ∷ n ∷ most ∷ []) ≡ own-as
+    unfolding told ownFinish
+    many-finish l = rw (← pm, lt-ltb _ _ l)
+
+    module _ (l : n ≤ most) where
+      pub scope-finish : scopeFits file start end ≡ false → told (9 ∷ start ∷ end ∷ []) ≡ own-as
+      unfolding told ownFinish
+      scope-finish s = rw (← pm, le-ltb _ _ l, s)
+
+      pub none-finish : scopeFits file start end ≡ true → accepted n ≡ own-as
+      unfolding ownFinish
+      none-finish s = rw (← pm, le-ltb _ _ l, s)
+
+-- what they accept
+module _ (file : LargeFileFlag) (n start end m : ℕ) (e : accepted m ≡ firstOf (ownFinish file n start end) n) where
+  own-passed : Passed (ownFinish file n start end)
+  own-passed = passed (ownFinish file n start end) m n e .0
+
+  finish-pairs : m ≡ n
+  finish-pairs = passed (ownFinish file n start end) m n e .1
+
+  pub finish-fits : m ≤ mostPairs file
+  unfolding ownFinish
+  finish-fits = rw finish-pairs (ltb-false _ _ (own-passed .0))
+
+-- and the header that goes on from it
+module _ (h : PduHeader) (n start end m : ℕ) (own : accepted m ≡ firstOf (ownFinish (h .file) n start end) n) (k : PduHeader) (p : k ≡ keeping h m) where
+  kept : k ≡ keeping h n
+  kept = p ∙ ap (keeping h) (finish-pairs (h .file) n start end m own)
+
+  finish-into : (room : ℕ) → writingDirective k room ≡ lengthInto (finishTests h n start end) (keeping h n) room
   unfolding finishTests
-  refused-finish ns e =
-      let us = scopeTooLarge (h .file) start end ∷ [] in
-      refused-length (pairTests h n ++ us) (keeping h n) room n ns (refused-on ns (pairTests h n) us (headerLength h) n e)
+  finish-into room = begun-into (ownFinish (h .file) n start end) (h .file) n h k room kept (own-passed (h .file) n start end m own)
 
-  module _ (good : Passed (pairTests h n)) where
-    pub scope-finish : scopeFits (h .file) start end ≡ false → told (9 ∷ start ∷ end ∷ []) ≡ lengthInto (finishTests h n start end) (keeping h n) room
-    unfolding told finishTests
-    scope-finish s =
-        let us = scopeTooLarge (h .file) start end ∷ [] in
-        refused-length (pairTests h n ++ us) (keeping h n) room n (9 ∷ start ∷ end ∷ []) (rw (passed-on (pairTests h n) us n good, s))
-
-  pub finish-fits : (v : ℕ) → accepted v ≡ lengthInto (finishTests h n start end) (keeping h n) room → n ≤ mostPairs (h .file)
-  unfolding finishTests
-  finish-fits v e =
-      let us = scopeTooLarge (h .file) start end ∷ [] in
-      few-pairs h n (passed-first (pairTests h n) us (length-passed (pairTests h n ++ us) (keeping h n) room v e))
-
-pub can-finish : (r : ReservedNak) (start end room v : ℕ) (k : PduHeader) → accepted v ≡ lengthInto (finishTests (r .header) (r .count) start end) (keeping (r .header) (r .count)) room → k ≡ keeping (r .header) (r .count)
-    → accepted (handed-back k) ≡ finishing r start end room
-unfolding finishing
-can-finish r start end room v k e p = length-into (finishTests (r .header) (r .count) start end) (keeping (r .header) (r .count)) room v k e p
+  -- behind it the scope goes where it fits
+  pub scope-goes : (v : ℕ) (s b : List ℕ) → accepted v ≡ writingDirective k (length s) → b ≡ directiveMemory k s → (areaStart k ≤ length b) × (scopeFits (k .file) start end ≡ true)
+  unfolding ownFinish
+  scope-goes v s b e q =
+      let flag : k .file ≡ h .file = ap (λ (x : PduHeader). x .file) kept ∙ filled-flag (h .file) n h in
+      (scope-room k start end v s b e q (rw kept (filled-area (h .file) n h)), ap (λ (f : LargeFileFlag). scopeFits f start end) flag ∙ not-false _ (own-passed (h .file) n start end m own .1 .0))
 
 -- what can be finished could be written, with as many pairs lent
 pub finish-writes : (r : ReservedNak) (start end room : ℕ) (w : NakWritten) → accepted w ≡ finishing r start end room
     → accepted w ≡ writingNak (r .header .file) (r .header) start end (2 * r .count) room
-unfolding finishing finishTests intoRoom pairTests
+unfolding finishing finishTests intoRoom ownFinish
 finish-writes r start end room w e =
     let h = r .header in
     let n = r .count in
     let k = keeping h n in
-    let ts = directiveTests h ++ (tooMany (h .file) n ∷ []) in
-    let us = scopeTooLarge (h .file) start end ∷ [] in
-    let p = passed ((ts ++ us) ++ (noRoom room k ∷ [])) w (record { header = k; length = pduLength k }) e in
-    let q = passed-first (ts ++ us) (noRoom room k ∷ []) (p .0) in
-    let l = passed-last (ts ++ us) (noRoom room k ∷ []) (p .0) in
-    let u = passed-first ts us q in
-    let s = passed-last ts us q in
-    let g = passed-first (directiveTests h) (tooMany (h .file) n ∷ []) u in
-    let m = passed-last (directiveTests h) (tooMany (h .file) n ∷ []) u in
+    let own = ownFinish (h .file) n start end in
+    let p = passed ((directiveTests h ++ own) ++ (noRoom room k ∷ [])) w (record { header = k; length = pduLength k }) e in
+    let q = passed-first (directiveTests h ++ own) (noRoom room k ∷ []) (p .0) in
+    let l = passed-last (directiveTests h ++ own) (noRoom room k ∷ []) (p .0) in
+    let g = passed-first (directiveTests h) own q in
+    let u = passed-last (directiveTests h) own q in
     let half : (2 * n) / 2 ≡ n = omega arith in
-    let j : accepted k ≡ judgingNak (h .file) h start end (2 * n) =
-    ap (λ (x : ℕ). accepted (filled (h .file) x h)) (sym half) ∙ judged-nak (h .file) h start end (2 * n) g (omega arith) (not-false _ (s .0)) (mostPairs (h .file)) refl (rw half (ltb-false _ _ (m .0))) in
+    let few : n ≤ mostPairs (h .file) = ltb-false _ _ (u .0) in
+    let own-tests = own-pass (h .file) start end (2 * n) (omega arith) (not-false _ (u .1 .0)) (rw half few) in
+    let j : accepted k ≡ judgingNak (h .file) h start end (2 * n) = ap (λ (x : ℕ). accepted (filled (h .file) x h)) (sym half) ∙ judged-nak (h .file) h start end (2 * n) g own-tests in
     ap accepted (p .1) ∙ sym (passed-on (noRoom room k ∷ []) [] (record { header = k; length = pduLength k }) l) ∙ into-room (h .file) h start end (2 * n) room k j
 
 -- ---- what finishing leaves in the buffer
 
-pub nothing-finished : (r : ReservedNak) (start end : ℕ) (s ns : List ℕ)
-    → told ns ≡ lengthInto (finishTests (r .header) (r .count) start end) (keeping (r .header) (r .count)) (length s)
-    → (told ns ≡ finishing r start end (length s)) × (s ≡ finishedMemory r start end s)
-unfolding finishing finishedMemory
-nothing-finished r start end s ns e =
-    let d = refused-into (finishTests (r .header) (r .count) start end) (keeping (r .header) (r .count)) (length s) ns e in
-    (d, told-leaves ns _ _ s d)
+-- refused by one of finishing's own tests, or by the record's, which come first
+pub own-unfinished : (r : ReservedNak) (start end : ℕ) (s ns : List ℕ) (o : Answer NakWritten) → told ns ≡ firstOf (ownFinish (r .header .file) (r .count) start end) (r .count)
+    → o ≡ andThen (judgingDirective (r .header)) (λ _. told ns) → (o ≡ finishing r start end (length s)) × (s ≡ finishedMemory r start end s)
+unfolding finishing finishedMemory finishTests
+own-unfinished r start end s ns o e q =
+    let d = q ∙ refused-into-first (ownFinish (r .header .file) (r .count) start end) _ (r .header) (keeping (r .header) (r .count)) (length s) ns e in
+    (d, behind-leaves (judgingDirective (r .header)) ns _ s ∙ ap (λ (x : Answer NakWritten). leaves x (λ (w : NakWritten). nakOver (w .header) start end (areaIn (w .header) s)) s) (sym q ∙ d))
 
-pub finished : (r : ReservedNak) (start end : ℕ) (s : List ℕ) (k : PduHeader) (w : NakWritten) (b : List ℕ) → accepted (handed-back k) ≡ finishing r start end (length s)
-    → w ≡ handed-back k → b ≡ around k start end s
-    → (accepted w ≡ finishing r start end (length s)) × (b ≡ finishedMemory r start end s)
-unfolding finishedMemory around
-finished r start end s k w b e q p =
-    (ap accepted q ∙ e, p ∙ ap (λ (o : Answer NakWritten). leaves o (λ (x : NakWritten). nakOver (x .header) start end (areaIn (x .header) s)) s) e)
+module _ (r : ReservedNak) (start end m : ℕ) (s : List ℕ) (own : accepted m ≡ firstOf (ownFinish (r .header .file) (r .count) start end) (r .count)) (k : PduHeader) (p : k ≡ keeping (r .header) m) where
+  abbrev h : PduHeader
+  h = r .header
+
+  -- refused by the record's tests, or for want of room
+  pub header-unfinished : (b ns : List ℕ) → told ns ≡ writingDirective k (length s) → b ≡ directiveMemory k s → (told ns ≡ finishing r start end (length s)) × (b ≡ finishedMemory r start end s)
+  unfolding finishing finishedMemory
+  header-unfinished b ns e q =
+      let d = refused-into (finishTests h (r .count) start end) (keeping h (r .count)) (length s) ns (e ∙ finish-into h (r .count) start end m own k p (length s)) in
+      (d, q ∙ sym (nothing-begun k s ns e .1) ∙ told-leaves ns _ _ s d)
+
+  module _ (v : ℕ) (b : List ℕ) (e : accepted v ≡ writingDirective k (length s)) (q : b ≡ directiveMemory k s) where
+    -- the NAK around the requests
+    pub finished : (d : ℕ) (b₁ b₂ : List ℕ) → b₁ ≡ sets b (headerLength k) (scopeBytes k start end) → d ≡ dataEnd k → b₂ ≡ crcAdded (k .crc) d b₁
+        → (accepted (record { header = k; length = v }) ≡ finishing r start end (length s)) × (b₂ ≡ finishedMemory r start end s)
+    unfolding finishedMemory finishing around
+    finished d b₁ b₂ q₁ pd e₂ =
+        let n = r .count in
+        let f : accepted (handed-back k) ≡ finishing r start end (length s) =
+        length-into (finishTests h n start end) (keeping h n) (length s) v k (e ∙ finish-into h n start end m own k p (length s)) (kept h n start end m own k p) in
+        let z = to-write (h .file) h start end (2 * n) (length s) (handed-back k) (finish-writes r start end (length s) (handed-back k) f) in
+        let before : areaStart k ≤ dataEnd k = omega (arith, area-before (h .file) h start end (2 * n) (length s) (handed-back k) z) in
+        let a : b₂ ≡ around k start end s = stored-around k start end d s b₁ b₂ before (z .room-is) pd (begun-sets k start end v s b e q b₁ q₁) e₂ in (
+          ap (λ (x : ℕ). accepted (record { header = k; length = x })) (begun-length k (length s) v e) ∙ f,
+          a ∙ ap (λ (o : Answer NakWritten). leaves o (λ (x : NakWritten). nakOver (x .header) start end (areaIn (x .header) s)) s) f,
+        )

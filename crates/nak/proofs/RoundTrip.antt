@@ -28,7 +28,7 @@ use Rattle.header.specs.Judging.{recordTests}
 use Rattle.header.specs.Comparing.{sameHeader}
 use Rattle.header.specs.Reading.{readingHeader}
 use Rattle.header.specs.Verifying.{checksumBytes}
-use Rattle.header.specs.Directive.{directiveTests, directiveBytes}
+use Rattle.header.specs.Directive.{directiveTests, directiveBytes, noRoom}
 use Rattle.header.proofs.FlagBits.{crc-bit}
 use Rattle.header.proofs.Directives.{directive-passes, with-directive}
 use Rattle.header.proofs.Writing.{header-length}
@@ -44,7 +44,7 @@ use Rattle.nak.specs.Nak.{offsetWidth, pairSize, areaStart, nakIn}
 use Rattle.nak.specs.Directive.{nakCode, isKnown}
 use Rattle.nak.specs.Reading.{readingDirective, readingData, readingNak}
 use Rattle.nak.specs.Requests.{areaOf, pairsFrom, pairsOf}
-use Rattle.nak.specs.Writing.{numbersBytes, startBytes, nakOver, nakBytes, dataLength, filled, scopeFits, oddCount, scopeTooLarge, tooMany, nakTests, noRoom, judgingNak, intoRoom, writingNak, nakMemory}
+use Rattle.nak.specs.Writing.{numbersBytes, scopeBytes, startBytes, nakOver, nakBytes, dataLength, filled, scopeFits, ownTests, nakTests, judgingNak, intoRoom, writingNak, nakMemory}
 use Rattle.nak.specs.Reserving.{pairTests, keeping, placed, reserving, finishing, areaIn, finishedMemory}
 use Rattle.nak.specs.Comparing.{sameNak, holdsNumbers, comparing}
 use Rattle.nak.specs.Demands.{byTurns, Lent, readAs, ReadsBack, MostPairsFit, WrittenReadsBack, CodeReadsBack, Written, FinishedIsWritten, ComparingSaysYes, Equals, YesMeansEqual}
@@ -142,7 +142,7 @@ module _ (k : PduHeader) (start end count : ℕ) (area t : List ℕ) (good : Pas
   S = checksumBytes (k .crc) (startBytes k start end ++ area)
 
   code-at : getD N (headerLength k) 0 ≡ 8
-  unfolding N nakOver startBytes
+  unfolding N nakOver startBytes scopeBytes
   code-at =
       let tail = beBytes W start ++ (beBytes W end ++ (area ++ S)) in
       let s : N ≡ headerBytes k ++ (beBytes 1 nakCode ++ tail) = simp append-assoc in
@@ -150,14 +150,14 @@ module _ (k : PduHeader) (start end count : ℕ) (area t : List ℕ) (good : Pas
       ap (λ (x : List ℕ). getD x (headerLength k) 0) (s ∙ c) ∙ getD-at (headerBytes k) 8 _ 0 (headerLength k) (header-length k)
 
   start-at : numberAt N (headerLength k + 1) W ≡ start
-  unfolding N nakOver startBytes
+  unfolding N nakOver startBytes scopeBytes
   start-at =
       let s : N ≡ (headerBytes k ++ beBytes 1 nakCode) ++ (beBytes W start ++ (beBytes W end ++ (area ++ S))) = simp append-assoc in
       let l : length (headerBytes k ++ beBytes 1 nakCode) ≡ headerLength k + 1 = simp (length-append, be-length, header-length) in
       ap (λ (x : List ℕ). numberAt x (headerLength k + 1) W) s ∙ number-back (headerBytes k ++ beBytes 1 nakCode) _ (headerLength k + 1) W start l (scope-fits (k .file) start end scope .0)
 
   end-at : numberAt N (headerLength k + 1 + W) W ≡ end
-  unfolding N nakOver startBytes
+  unfolding N nakOver startBytes scopeBytes
   end-at =
       let pre = (headerBytes k ++ beBytes 1 nakCode) ++ beBytes W start in
       let s : N ≡ pre ++ (beBytes W end ++ (area ++ S)) = simp append-assoc in
@@ -172,7 +172,7 @@ module _ (k : PduHeader) (start end count : ℕ) (area t : List ℕ) (good : Pas
       λ i. record { header = k; start = start-at i; end = end-at i; area = areaStart k; stop = dataEnd k; count = pairs i }
 
   header-run : run readingHeader (N ++ t) ≡ accepted k
-  unfolding N nakOver startBytes
+  unfolding N nakOver startBytes scopeBytes
   header-run =
       let r = beBytes 1 nakCode ++ (beBytes W start ++ (beBytes W end ++ (area ++ (S ++ t)))) in
       let s : N ++ t ≡ headerBytes k ++ r = simp append-assoc in
@@ -253,7 +253,7 @@ kept : (h : PduHeader) (n start end count room : ℕ) → writingNak (h .file) (
 unfolding writingNak intoRoom nakTests filled
 kept h n start end count room =
     let k = filled (h .file) (count / 2) h in
-    ap (λ (ts : List Test). firstOf ((ts ++ (oddCount count ∷ scopeTooLarge (h .file) start end ∷ tooMany (h .file) (count / 2) ∷ [])) ++ (noRoom room k ∷ [])) (record { header = k; length = pduLength k }))
+    ap (λ (ts : List Test). firstOf ((ts ++ ownTests (h .file) start end count) ++ (noRoom room k ∷ [])) (record { header = k; length = pduLength k }))
     (with-directive TowardsSender (h .file) (dataLength (h .file) (h .crc) n) h)
 
 -- of the record that reserving made
@@ -380,10 +380,10 @@ went (short l n) f b e = let z : _≡_ {A = ℕ} 0 1 = cc in absurd (let x : ⊥
 went (refused ns) f b e = let z : _≡_ {A = ℕ} 0 1 = cc in absurd (let x : ⊥ = omega arith in x)
 
 even-list : (file : LargeFileFlag) (h : PduHeader) (start end count : ℕ) (w : PduHeader) → judgingNak file h start end count ≡ accepted w → count ≡ 2 * (count / 2)
-unfolding judgingNak nakTests
+unfolding judgingNak nakTests ownTests
 even-list file h start end count w e =
     let p = passed (nakTests file h start end count) w (filled file (count / 2) h) (sym e) in
-    let u = passed-last (directiveTests h) (oddCount count ∷ scopeTooLarge file start end ∷ tooMany file (count / 2) ∷ []) (p .0) in
+    let u = passed-last (directiveTests h) (ownTests file start end count) (p .0) in
     omega (arith, eqb-true (count % 2) 0 (not-false (eqb (count % 2) 0) (u .0)), div-add-mod' count 2)
 
 pub yes-means-equal : YesMeansEqual

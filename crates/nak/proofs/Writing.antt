@@ -10,14 +10,14 @@ use native.Mathlib.Omega.{arith}
 use lib.Arith.{digits-lt, digits-div, digits-mod}
 use lib.Dec.{eqb, lit<}
 use lib.ListN.{length, getD, take, drop, length-append, length-drop, take-append-drop, drop-of-length-le}
-use lib.Seq.{sets, sets-eq, length-sets, length-take-le, take-at, drop-at, drop-cons, drop-drop}
+use lib.Seq.{sets, sets-eq, length-sets, length-take-le, take-at, drop-cons, drop-drop}
 use borrow.Author.Tests.{lt-ltb, le-ltb, ltb-false, eq-eqb, ne-eqb, eqb-true, not-false}
 use Rattle.fields.specs.Width.{fitsWidth}
 use Rattle.fields.specs.BigEndian.{beBytes, bePut}
-use Rattle.fields.specs.Answer.{Answer, accepted, told, firstOf, leaves, Test}
+use Rattle.fields.specs.Answer.{Answer, accepted, told, andThen, firstOf, leaves, Test}
 use Rattle.fields.proofs.Width.{fits-lt}
 use Rattle.fields.proofs.BigEndian.{be-length, be-beside, put-sets, sets-append, then-sets}
-use Rattle.fields.proofs.Judging.{Passed, passed, all-passed, passed-first, passed-last, passed-on, refused-on, told-leaves}
+use Rattle.fields.proofs.Judging.{Passed, passed, all-passed, passed-first, passed-last, passed-on, passed-between, refused-on, refused-behind, told-on, told-leaves, behind-leaves}
 use Rattle.header.specs.declared.PduHeader.{PduHeader}
 use Rattle.header.specs.declared.flags.PduType.the-variants.{FileDirective}
 use Rattle.header.specs.declared.flags.Direction.the-variants.{TowardsSender}
@@ -27,16 +27,15 @@ use Rattle.header.specs.declared.flags.LargeFileFlag.the-variants.{Normal, Larg
 use Rattle.header.specs.Flags.{crcBit}
 use Rattle.header.specs.Header.{headerLength, pduLength, dataEnd, headerBytes, withDirection, withFileFlag, withLength}
 use Rattle.header.specs.Judging.{recordTests}
-use Rattle.header.specs.Directive.{directiveTests, judgingDirective}
-use Rattle.header.specs.Writing.{headerMemory}
+use Rattle.header.specs.Directive.{directiveTests, judgingDirective, noRoom, writingDirective, directiveMemory}
 use Rattle.header.specs.Verifying.{checksumBytes, crcAdded}
 use Rattle.header.proofs.Judging.{with-tests}
-use Rattle.header.proofs.Directives.{refused-directive, directive-good, directive-kind}
-use Rattle.header.proofs.Writing.{header-length, header-stored}
+use Rattle.header.proofs.Directives.{refused-directive, directive-good, directive-kind, with-directive, nothing-begun, begun-room, begun-length, begun-stored}
+use Rattle.header.proofs.Writing.{header-length}
 use Rattle.header.proofs.Verifying.{pdu-sum, end-sum, added-sets, checksum-length}
 use Rattle.nak.specs.declared.write.NakWritten.{NakWritten}
 use Rattle.nak.specs.Nak.{offsetWidth, pairSize, areaStart}
-use Rattle.nak.specs.Writing.{numbersBytes, startBytes, nakOver, nakBytes, dataLength, mostPairs, filled, scopeFits, oddCount, scopeTooLarge, tooMany, noRoom, nakTests, judgingNak, intoRoom, writingNak, nakMemory}
+use Rattle.nak.specs.Writing.{numbersBytes, scopeBytes, startBytes, nakOver, nakBytes, dataLength, mostPairs, filled, scopeFits, ownTests, nakTests, judgingNak, intoRoom, writingNak, nakMemory}
 use Rattle.nak.specs.Reserving.{areaIn}
 use Rattle.nak.specs.Within.{lengthInto}
 
@@ -75,7 +74,46 @@ filled-is file n d h a b c p q r s = s ∙ ap₂ withLength p (r ∙ ap (withFil
 
 -- ---- the judgement
 
--- whatever is accepted where no test holds
+-- the NAK's own tests, whatever is accepted where none holds
+module _ {A : Type 0} (x : A) (file : LargeFileFlag) (start end count : ℕ) where
+  abbrev own-as : Answer A
+  own-as = firstOf (ownTests file start end count) x
+
+  pub odd : (count % 2 ≡ 0 → ⊥) → told (12 ∷ count ∷ []) ≡ own-as
+  unfolding told ownTests
+  odd n = rw (ne-eqb _ _ n)
+
+  module _ (even : count % 2 ≡ 0) where
+    pub bad-scope : scopeFits file start end ≡ false → told (9 ∷ start ∷ end ∷ []) ≡ own-as
+    unfolding told ownTests
+    bad-scope s = rw (eq-eqb _ _ even, s)
+
+    module _ (scope : scopeFits file start end ≡ true) (most : ℕ) (pm : most ≡ mostPairs file) where
+      pub too-many : most < count / 2 → told (10 ∷ count / 2 ∷ most ∷ []) ≡ own-as
+      unfolding told ownTests
+      too-many l = rw (eq-eqb _ _ even, scope, ← pm, lt-ltb _ _ l)
+
+      pub none-holds : count / 2 ≤ most → accepted x ≡ own-as
+      unfolding ownTests
+      none-holds l = rw (eq-eqb _ _ even, scope, ← pm, le-ltb _ _ l)
+
+-- what they accept
+module _ (file : LargeFileFlag) (start end count m : ℕ) (e : accepted m ≡ firstOf (ownTests file start end count) (count / 2)) where
+  pub own-passed : Passed (ownTests file start end count)
+  own-passed = passed (ownTests file start end count) m (count / 2) e .0
+
+  own-pairs : m ≡ count / 2
+  own-pairs = passed (ownTests file start end count) m (count / 2) e .1
+
+  pub own-fits : m ≤ mostPairs file
+  unfolding ownTests
+  own-fits = rw own-pairs (ltb-false _ _ (own-passed .1 .1 .0))
+
+pub own-pass : (file : LargeFileFlag) (start end count : ℕ) → count % 2 ≡ 0 → scopeFits file start end ≡ true → count / 2 ≤ mostPairs file → Passed (ownTests file start end count)
+unfolding ownTests
+own-pass file start end count even scope few = (rw (eq-eqb _ _ even), (rw scope, (le-ltb _ _ few, tt)))
+
+-- the record's tests, and behind them those
 module _ {A : Type 0} (x : A) (file : LargeFileFlag) (h : PduHeader) (start end count : ℕ) where
   abbrev judged-as : Answer A
   judged-as = firstOf (nakTests file h start end count) x
@@ -85,33 +123,23 @@ module _ {A : Type 0} (x : A) (file : LargeFileFlag) (h : PduHeader) (start end 
   refused-nak ns e = refused-directive h _ _ ns e
 
   module _ (good : Passed (directiveTests h)) where
-    rest : judged-as ≡ firstOf (oddCount count ∷ scopeTooLarge file start end ∷ tooMany file (count / 2) ∷ []) x
+    own-decides : firstOf (ownTests file start end count) x ≡ judged-as
     unfolding nakTests
-    rest = passed-on (directiveTests h) _ _ good
+    own-decides = sym (passed-on (directiveTests h) _ x good)
 
-    pub odd : (count % 2 ≡ 0 → ⊥) → told (12 ∷ count ∷ []) ≡ judged-as
-    unfolding told
-    odd n = rw (rest, ne-eqb _ _ n)
+    pub refused-own : (ns : List ℕ) → told ns ≡ firstOf (ownTests file start end count) (count / 2) → told ns ≡ judged-as
+    unfolding ownTests
+    refused-own ns e = refused-on ns (ownTests file start end count) [] (count / 2) x e ∙ own-decides
 
-    module _ (even : count % 2 ≡ 0) where
-      pub bad-scope : scopeFits file start end ≡ false → told (9 ∷ start ∷ end ∷ []) ≡ judged-as
-      unfolding told
-      bad-scope s = rw (rest, eq-eqb _ _ even, s)
-
-      module _ (scope : scopeFits file start end ≡ true) (most : ℕ) (pm : most ≡ mostPairs file) where
-        pub too-many : most < count / 2 → told (10 ∷ count / 2 ∷ most ∷ []) ≡ judged-as
-        unfolding told
-        too-many l = rw (rest, eq-eqb _ _ even, scope, ← pm, lt-ltb _ _ l)
-
-        pub none-holds : count / 2 ≤ most → accepted x ≡ judged-as
-        none-holds l = rw (rest, eq-eqb _ _ even, scope, ← pm, le-ltb _ _ l)
+    pub both-passed : Passed (ownTests file start end count) → accepted x ≡ judged-as
+    unfolding ownTests
+    both-passed p = sym (all-passed (ownTests file start end count) x p) ∙ own-decides
 
 -- from what was judged to the header that is handed back
 module _ (file : LargeFileFlag) (h : PduHeader) (start end count : ℕ) where
-  pub judged-nak : Passed (directiveTests h) → count % 2 ≡ 0 → scopeFits file start end ≡ true → (most : ℕ) → most ≡ mostPairs file → count / 2 ≤ most
-      → accepted (filled file (count / 2) h) ≡ judgingNak file h start end count
+  pub judged-nak : Passed (directiveTests h) → Passed (ownTests file start end count) → accepted (filled file (count / 2) h) ≡ judgingNak file h start end count
   unfolding judgingNak
-  judged-nak good even scope most pm l = none-holds (filled file (count / 2) h) file h start end count good even scope most pm l
+  judged-nak good own = both-passed (filled file (count / 2) h) file h start end count good own
 
   pub refused-judged : (ns : List ℕ) → told ns ≡ firstOf (nakTests file h start end count) (headerLength h) → told ns ≡ judgingNak file h start end count
   unfolding judgingNak
@@ -122,8 +150,8 @@ module _ (file : LargeFileFlag) (h : PduHeader) (start end count : ℕ) where
     judged-passed = passed (nakTests file h start end count) n (headerLength h) e .0
 
     pub judged-fits : count / 2 ≤ mostPairs file
-    unfolding nakTests
-    judged-fits = ltb-false _ _ (passed-last (directiveTests h) (oddCount count ∷ scopeTooLarge file start end ∷ tooMany file (count / 2) ∷ []) judged-passed .1 .1 .0)
+    unfolding nakTests ownTests
+    judged-fits = ltb-false _ _ (passed-last (directiveTests h) (ownTests file start end count) judged-passed .1 .1 .0)
 
     pub judged-filled : accepted (filled file (count / 2) h) ≡ judgingNak file h start end count
     unfolding judgingNak
@@ -166,10 +194,6 @@ module _ (ts : List Test) (k : PduHeader) (room : ℕ) where
   unfolding lengthInto intoRoom
   length-into n j e p = ap (λ (x : PduHeader). accepted (handed-back x)) p ∙ sym (all-passed with-room (handed-back k) (passed with-room n (pduLength k) e .0))
 
-  pub length-handed : (n : ℕ) (j : PduHeader) → accepted n ≡ lengthInto ts k room → j ≡ k → record { header = j; length = n } ≡ handed-back j
-  unfolding lengthInto
-  length-handed n j e p = ap (λ (m : ℕ). record { header = j; length = m }) (passed with-room n (pduLength k) e .1 ∙ ap pduLength (sym p))
-
   pub length-passed : (n : ℕ) → accepted n ≡ lengthInto ts k room → Passed ts
   unfolding lengthInto
   length-passed n e = passed-first ts (noRoom room k ∷ []) (passed with-room n (pduLength k) e .0)
@@ -183,10 +207,64 @@ module _ (file : LargeFileFlag) (h : PduHeader) (start end count room : ℕ) whe
       ∙ sym (passed-on (nakTests file h start end count) (noRoom room (filled file (count / 2) h) ∷ []) _ (p .0))
 
   -- where the length is accepted, the NAK is written
-  pub can-write : (n : ℕ) (j : PduHeader) → accepted n ≡ lengthInto (nakTests file h start end count) (filled file (count / 2) h) room → j ≡ filled file (count / 2) h
+  can-write : (n : ℕ) (j : PduHeader) → accepted n ≡ lengthInto (nakTests file h start end count) (filled file (count / 2) h) room → j ≡ filled file (count / 2) h
       → accepted (handed-back j) ≡ writingNak file h start end count room
   unfolding writingNak
   can-write n j e p = length-into (nakTests file h start end count) (filled file (count / 2) h) room n j e p
+
+pub filled-flag : (file : LargeFileFlag) (n : ℕ) (h : PduHeader) → filled file n h .file ≡ file
+unfolding filled
+filled-flag file n h = refl
+
+pub filled-area : (file : LargeFileFlag) (n : ℕ) (h : PduHeader) → areaStart (filled file n h) ≤ pduLength (filled file n h)
+unfolding areaStart filled dataLength
+filled-area file n h = omega (arith, pdu-sum (filled file n h))
+
+-- ---- a judgement in two parts: some tests of the writer's own, and then the header's writer
+
+-- where its own are passed, that decides
+pub begun-into : (own : List Test) (file : LargeFileFlag) (n : ℕ) (h k : PduHeader) (room : ℕ) → k ≡ filled file n h → Passed own
+    → writingDirective k room ≡ lengthInto (directiveTests h ++ own) (filled file n h) room
+unfolding writingDirective lengthInto filled
+begun-into own file n h k room p good =
+    let F = withLength (dataLength file (h .crc) n) (withFileFlag file (withDirection TowardsSender h)) in
+    ap (λ (x : PduHeader). firstOf (directiveTests x ++ (noRoom room x ∷ [])) (pduLength x)) p
+    ∙ ap (λ (ts : List Test). firstOf (ts ++ (noRoom room F ∷ [])) (pduLength F)) (with-directive TowardsSender file (dataLength file (h .crc) n) h)
+    ∙ sym (passed-between (directiveTests h) own (noRoom room F ∷ []) (pduLength F) good)
+
+-- and where one of its own refuses, the record's tests come first
+pub refused-into-first : {A : Type 0} (own : List Test) (x : A) (h k : PduHeader) (room : ℕ) (ns : List ℕ) → told ns ≡ firstOf own x
+    → andThen (judgingDirective h) (λ _. told ns) ≡ intoRoom (directiveTests h ++ own) k room
+unfolding judgingDirective intoRoom
+refused-into-first own x h k room ns e =
+    let us = own ++ (noRoom room k ∷ []) in
+    refused-behind ns (directiveTests h) us room (headerLength h) (handed-back k) (refused-on ns own (noRoom room k ∷ []) x room e)
+    ∙ ap (λ (ts : List Test). firstOf ts (handed-back k)) (sym (append-assoc (directiveTests h) own (noRoom room k ∷ [])))
+
+-- the two exits of that
+module _ (h : PduHeader) where
+  pub first-refused : (ns ms : List ℕ) → told ns ≡ judgingDirective h → _≡_ {A = Answer NakWritten} (told ns) (andThen (judgingDirective h) (λ _. told ms))
+  first-refused ns ms e = sym (told-on ns (λ _. told ms)) ∙ ap (λ (o : Answer ℕ). andThen o (λ _. told ms)) e
+
+  pub then-refused : (n : ℕ) (ms : List ℕ) → accepted n ≡ judgingDirective h → _≡_ {A = Answer NakWritten} (told ms) (andThen (judgingDirective h) (λ _. told ms))
+  then-refused n ms e = ap (λ (o : Answer ℕ). andThen o (λ _. told ms)) e
+
+module _ (file : LargeFileFlag) (h : PduHeader) (start end count m room : ℕ) (e : accepted m ≡ firstOf (ownTests file start end count) (count / 2)) (k : PduHeader) (p : k ≡ filled file m h) where
+  filled-in : k ≡ filled file (count / 2) h
+  filled-in = p ∙ ap (λ (n : ℕ). filled file n h) (own-pairs file start end count m e)
+
+  nak-into : writingDirective k room ≡ lengthInto (nakTests file h start end count) (filled file (count / 2) h) room
+  unfolding nakTests
+  nak-into = begun-into (ownTests file start end count) file (count / 2) h k room filled-in (own-passed file start end count m e)
+
+  begun-nak : (v : ℕ) → accepted v ≡ writingDirective k room → accepted (handed-back k) ≡ writingNak file h start end count room
+  begun-nak v d = can-write file h start end count room v k (d ∙ nak-into) filled-in
+
+  -- the scope fits, and lies within the PDU
+  can-begin : (areaStart k ≤ pduLength k) × (scopeFits (k .file) start end ≡ true)
+  unfolding ownTests
+  can-begin =
+      (rw filled-in (filled-area file (count / 2) h), ap (λ (x : PduHeader). scopeFits (x .file) start end) filled-in ∙ ap (λ (f : LargeFileFlag). scopeFits f start end) (filled-flag file (count / 2) h) ∙ not-false _ (own-passed file start end count m e .1 .0))
 
 -- ---- what an accepted one has
 
@@ -204,31 +282,46 @@ pub record ToWrite (file : LargeFileFlag) (h : PduHeader) (start end count room 
 
 -- ---- the stores
 
--- header, directive, scope
-pub start-stored : (h : PduHeader) (start end a w : ℕ) (s b₁ b₂ b₃ b₄ : List ℕ) → Passed (recordTests h) → areaStart h ≤ length s → scopeFits (h .file) start end ≡ true
+-- directive and scope, behind the header
+pub scope-stored : (h : PduHeader) (start end a w : ℕ) (s b₁ b₂ b₃ : List ℕ) → areaStart h ≤ length s → scopeFits (h .file) start end ≡ true
     → a ≡ headerLength h → w ≡ offsetWidth (h .file) → w ≤ 8
-    → b₁ ≡ headerMemory h s → b₂ ≡ bePut b₁ a 1 8 → b₃ ≡ bePut b₂ (a + 1) w start → b₄ ≡ bePut b₃ (a + 1 + w) w end
-    → b₄ ≡ sets s 0 (startBytes h start end)
-unfolding startBytes areaStart
-start-stored h start end a w s b₁ b₂ b₃ b₄ good room scope pa pw small e₁ e₂ e₃ e₄ =
+    → b₁ ≡ bePut s a 1 8 → b₂ ≡ bePut b₁ (a + 1) w start → b₃ ≡ bePut b₂ (a + 1 + w) w end
+    → b₃ ≡ sets s (headerLength h) (scopeBytes h start end)
+unfolding scopeBytes areaStart
+scope-stored h start end a w s b₁ b₂ b₃ room scope pa pw small e₁ e₂ e₃ =
     let f = scope-fits (h .file) start end scope in
     let l : a + 1 + 2 * w ≤ length s = rw (pa, pw) room in
     let fs : start < 256 ^ w = rw pw (f .0) in
     let fe : end < 256 ^ w = rw pw (f .1) in
-    let x₁ = headerBytes h in
-    let x₂ = x₁ ++ beBytes 1 8 in
-    let x₃ = x₂ ++ beBytes w start in
-    let n₁ : length x₁ ≡ a = header-length h ∙ sym pa in
-    let n₂ : length x₂ ≡ a + 1 = simp (length-append, be-length, n₁) in
-    let n₃ : length x₃ ≡ a + 1 + w = simp (length-append, be-length, n₁) in
-    let p₁ : b₁ ≡ sets s 0 x₁ = header-stored h s b₁ good (omega arith) e₁ in
-    let m₁ : length b₁ ≡ length s = ap length p₁ ∙ length-sets s 0 x₁ in
-    let p₂ : b₂ ≡ sets s 0 x₂ = then-sets x₁ (beBytes 1 8) s a n₁ p₁ (e₂ ∙ put-sets b₁ a 1 8 (omega arith) (omega arith) (lit< tt)) in
-    let m₂ : length b₂ ≡ length s = ap length p₂ ∙ length-sets s 0 x₂ in
-    let p₃ : b₃ ≡ sets s 0 x₃ = then-sets x₂ (beBytes w start) s (a + 1) n₂ p₂ (e₃ ∙ put-sets b₂ (a + 1) w start small (omega arith) fs) in
-    let m₃ : length b₃ ≡ length s = ap length p₃ ∙ length-sets s 0 x₃ in
-    let p₄ : b₄ ≡ sets s 0 (x₃ ++ beBytes w end) = then-sets x₃ (beBytes w end) s (a + 1 + w) n₃ p₃ (e₄ ∙ put-sets b₃ (a + 1 + w) w end small (omega arith) fe) in
-    p₄ ∙ rw pw
+    let x = beBytes 1 8 in
+    let y = beBytes w start in
+    let z = beBytes w end in
+    let p₁ : b₁ ≡ sets s a x = e₁ ∙ put-sets s a 1 8 (omega arith) (omega arith) (lit< tt) in
+    let m₁ : length b₁ ≡ length s = ap length p₁ ∙ length-sets s a x in
+    let p₂ : b₂ ≡ sets b₁ (a + 1) y = e₂ ∙ put-sets b₁ (a + 1) w start small (omega arith) fs in
+    let m₂ : length b₂ ≡ length s = ap length p₂ ∙ length-sets b₁ (a + 1) y ∙ m₁ in
+    let p₃ : b₃ ≡ sets b₂ (a + 1 + w) z = e₃ ∙ put-sets b₂ (a + 1 + w) w end small (omega arith) fe in
+    let xy : sets s a (x ++ y) ≡ b₂ = sets-append x y s a ∙ ap₂ (λ (l : List ℕ) (i : ℕ). sets l (a + i) y) (sym p₁) (be-length 1 8) ∙ sym p₂ in
+    let n : a + length (x ++ y) ≡ a + 1 + w = simp (length-append, be-length) (omega arith) in
+    let xyz : sets s a ((x ++ y) ++ z) ≡ b₃ = sets-append (x ++ y) z s a ∙ ap₂ (λ (l : List ℕ) (i : ℕ). sets l i z) xy n ∙ sym p₃ in
+    sym xyz ∙ ap₂ (λ (i j : ℕ). sets s i ((x ++ beBytes j start) ++ beBytes j end)) pa pw
+
+pub start-length : (h : PduHeader) (start end : ℕ) → length (startBytes h start end) ≡ areaStart h
+unfolding startBytes scopeBytes areaStart
+start-length h start end = simp (length-append, be-length, header-length) (omega arith)
+
+-- behind the header's writer, where it accepts
+module _ (h : PduHeader) (start end n : ℕ) (s b : List ℕ) (e : accepted n ≡ writingDirective h (length s)) (q : b ≡ directiveMemory h s) where
+  begun-long : length b ≡ length s
+  begun-long = ap length (begun-stored h s b n e q) ∙ length-sets s 0 (headerBytes h)
+
+  pub scope-room : areaStart h ≤ pduLength h → areaStart h ≤ length b
+  scope-room l = omega (arith, begun-room h (length s) n e, begun-long)
+
+  -- header, directive and scope, one behind the other
+  pub begun-sets : (b₁ : List ℕ) → b₁ ≡ sets b (headerLength h) (scopeBytes h start end) → b₁ ≡ sets s 0 (startBytes h start end)
+  unfolding startBytes
+  begun-sets b₁ p = then-sets (headerBytes h) (scopeBytes h start end) s (headerLength h) (header-length h) (begun-stored h s b n e q) p
 
 -- a turn of the loop over the numbers, and its end: what is left to do
 pub number-turn : (w at i v : ℕ) (l m ns : List ℕ) → w ≤ 8 → at + w * length ns ≤ length l → i < length ns → v ≡ getD ns i 0 → v < 256 ^ w → m ≡ bePut l (at + w * i) w v
@@ -290,7 +383,7 @@ filled-whole : (file : LargeFileFlag) (h : PduHeader) (count : ℕ) → count �
 unfolding areaStart filled dataLength
 filled-whole file h count e = omega (arith, pdu-sum (filled file (count / 2) h), doubled file count e)
 
-pub filled-good : (file : LargeFileFlag) (n : ℕ) (h : PduHeader) → Passed (recordTests h) → Passed (recordTests (filled file n h))
+filled-good : (file : LargeFileFlag) (n : ℕ) (h : PduHeader) → Passed (recordTests h) → Passed (recordTests (filled file n h))
 unfolding filled
 filled-good file n h p = rw (with-tests TowardsSender file (dataLength file (h .crc) n) h) p
 
@@ -298,22 +391,18 @@ filled-kind : (file : LargeFileFlag) (n : ℕ) (h : PduHeader) → filled file n
 unfolding filled
 filled-kind file n h = refl
 
-pub filled-flag : (file : LargeFileFlag) (n : ℕ) (h : PduHeader) → filled file n h .file ≡ file
-unfolding filled
-filled-flag file n h = refl
-
 module _ (file : LargeFileFlag) (h : PduHeader) (start end count room : ℕ) (w : NakWritten) (e : accepted w ≡ writingNak file h start end count room) where
   abbrev F : PduHeader
   F = filled file (count / 2) h
 
   pub to-write : ToWrite file h start end count room w
-  unfolding writingNak intoRoom nakTests
+  unfolding writingNak intoRoom nakTests ownTests
   to-write =
       let p = passed (nakTests file h start end count ++ (noRoom room F ∷ [])) w (record { header = F; length = pduLength F }) e in
       let q = passed-first (nakTests file h start end count) (noRoom room F ∷ []) (p .0) in
       let r = passed-last (nakTests file h start end count) (noRoom room F ∷ []) (p .0) in
-      let g = passed-first (directiveTests h) (oddCount count ∷ scopeTooLarge file start end ∷ tooMany file (count / 2) ∷ []) q in
-      let u = passed-last (directiveTests h) (oddCount count ∷ scopeTooLarge file start end ∷ tooMany file (count / 2) ∷ []) q in
+      let g = passed-first (directiveTests h) (ownTests file start end count) q in
+      let u = passed-last (directiveTests h) (ownTests file start end count) q in
       let is : w .header ≡ F = ap (λ (x : NakWritten). x .header) (p .1) in
       let long : w .length ≡ pduLength F = ap (λ (x : NakWritten). x .length) (p .1) in
       let even : count ≡ 2 * (count / 2) = omega (arith, eqb-true (count % 2) 0 (not-false (eqb (count % 2) 0) (u .0)), div-add-mod' count 2) in
@@ -332,30 +421,11 @@ module _ (file : LargeFileFlag) (h : PduHeader) (start end count room : ℕ) (w 
       }
 
 -- the request area lies before the end of the data, and there is room for the numbers
-pub numbers-room : (file : LargeFileFlag) (h : PduHeader) (start end count room : ℕ) (w : NakWritten) → ToWrite file h start end count room w → areaStart (w .header) + offsetWidth file * count ≤ room
+numbers-room : (file : LargeFileFlag) (h : PduHeader) (start end count room : ℕ) (w : NakWritten) → ToWrite file h start end count room w → areaStart (w .header) + offsetWidth file * count ≤ room
 numbers-room file h start end count room w z = omega (arith, z .whole, z .room-is, z .length-is)
 
 pub area-before : (file : LargeFileFlag) (h : PduHeader) (start end count room : ℕ) (w : NakWritten) → ToWrite file h start end count room w → areaStart (w .header) + offsetWidth file * count ≡ dataEnd (w .header)
 area-before file h start end count room w z = omega (arith, z .whole, end-sum (w .header))
-
--- what is asked of a header and a buffer before the NAK is stored around its requests; m is the length of the buffer, of which nothing was lost
-pub record Ready (k : PduHeader) (start end m : ℕ) : Type 0 where
-  pub good : Passed (recordTests k)
-  pub before : areaStart k ≤ dataEnd k
-  pub room : pduLength k ≤ m
-  pub start-room : areaStart k ≤ m
-  pub scope : scopeFits (k .file) start end ≡ true
-
-pub ready : (file : LargeFileFlag) (h : PduHeader) (start end count room : ℕ) (k : PduHeader) → accepted (handed-back k) ≡ writingNak file h start end count room → (m : ℕ) → m ≡ room → Ready k start end m
-ready file h start end count room k e m q =
-    let z = to-write file h start end count room (handed-back k) e in
-    let fits : pduLength k ≤ m = rw q (z .room-is) in
-    let before : areaStart k ≤ dataEnd k = omega (arith, area-before file h start end count room (handed-back k) z) in
-    record { good = z .good; before = before; room = fits; start-room = omega (arith, end-sum k); scope = z .scope }
-
-pub start-length : (h : PduHeader) (start end : ℕ) → length (startBytes h start end) ≡ areaStart h
-unfolding startBytes areaStart
-start-length h start end = simp (length-append, be-length, header-length) (omega arith)
 
 -- ---- what is stored around the requests
 
@@ -398,14 +468,12 @@ sealed k start end n area s b₁ b₂ pn fit e₁ e₂ =
     let lXC : length (X ++ C) ≤ length s = omega (arith, length-append X C) in
     p ∙ sets-eq (X ++ C) s 0 (omega arith) ∙ ap (λ (j : ℕ). (X ++ C) ++ drop j s) (zero-add (length (X ++ C)))
 
-pub stored-around : (k : PduHeader) (start end m n : ℕ) (s b₁ b₂ : List ℕ) → Ready k start end m → m ≡ length s → n ≡ dataEnd k
+pub stored-around : (k : PduHeader) (start end n : ℕ) (s b₁ b₂ : List ℕ) → areaStart k ≤ dataEnd k → pduLength k ≤ length s → n ≡ dataEnd k
     → b₁ ≡ sets s 0 (startBytes k start end) → b₂ ≡ crcAdded (k .crc) n b₁ → b₂ ≡ around k start end s
 unfolding around areaIn
-stored-around k start end m n s b₁ b₂ z pm pn e₁ e₂ =
+stored-around k start end n s b₁ b₂ before room pn e₁ e₂ =
     let A = startBytes k start end in
     let B = take (dataEnd k - areaStart k) (drop (areaStart k) s) in
-    let before = z .before in
-    let room = z .room in
     let lA : length A ≡ areaStart k = start-length k start end in
     let ends : dataEnd k + 2 * crcBit (k .crc) ≡ pduLength k = end-sum k in
     let lB : length B ≡ dataEnd k - areaStart k = length-take-le (dataEnd k - areaStart k) (drop (areaStart k) s) (omega (arith, length-drop (areaStart k) s)) in
@@ -414,7 +482,7 @@ stored-around k start end m n s b₁ b₂ z pm pn e₁ e₂ =
 
 -- ---- an accepted write, from what its calls left in the buffer
 
-pub nothing-written : (file : LargeFileFlag) (h : PduHeader) (start end : ℕ) (numbers s ns : List ℕ)
+nothing-written : (file : LargeFileFlag) (h : PduHeader) (start end : ℕ) (numbers s ns : List ℕ)
     → told ns ≡ lengthInto (nakTests file h start end (length numbers)) (filled file (length numbers / 2) h) (length s)
     → (told ns ≡ writingNak file h start end (length numbers) (length s)) × (s ≡ nakMemory file h start end numbers s)
 unfolding nakMemory writingNak
@@ -422,58 +490,68 @@ nothing-written file h start end numbers s ns e =
     let d = refused-into (nakTests file h start end (length numbers)) (filled file (length numbers / 2) h) (length s) ns e in
     (d, told-leaves ns _ _ s d)
 
--- bytes that were stored at a place stand there, and what lies behind them is as it was
-there : (at n : ℕ) (xs s : List ℕ) → length xs ≡ n → at + n ≤ length s → take n (drop at (sets s at xs)) ≡ xs
-there at n xs s l h =
-    let D = drop (at + length xs) s in
-    let t : length (take at s) ≡ at = length-take-le at s (omega arith) in
-    ap (λ (z : List ℕ). take n (drop at z)) (sets-eq xs s at (omega arith) ∙ append-assoc (take at s) xs D)
-    ∙ ap (take n) (drop-at (take at s) (xs ++ D) at t)
-    ∙ take-at xs D n l
+-- refused by one of the NAK's own tests, or by the record's, which come first
+pub refused-by-own : (file : LargeFileFlag) (h : PduHeader) (start end : ℕ) (numbers s ns : List ℕ) (o : Answer NakWritten)
+    → told ns ≡ firstOf (ownTests file start end (length numbers)) (length numbers / 2) → o ≡ andThen (judgingDirective h) (λ _. told ns)
+    → (o ≡ writingNak file h start end (length numbers) (length s)) × (s ≡ nakMemory file h start end numbers s)
+unfolding nakMemory writingNak nakTests
+refused-by-own file h start end numbers s ns o e q =
+    let d = q ∙ refused-into-first (ownTests file start end (length numbers)) _ h (filled file (length numbers / 2) h) (length s) ns e in
+    (d, behind-leaves (judgingDirective h) ns _ s ∙ ap (λ (x : Answer NakWritten). leaves x (λ (w : NakWritten). nakBytes (w .header) start end numbers) s) (sym q ∙ d))
 
-behind : (at m : ℕ) (xs s : List ℕ) → at + length xs ≤ m → at + length xs ≤ length s → drop m (sets s at xs) ≡ drop m s
-behind at m xs s h k =
-    let j = at + length xs in
-    let l : length (take at s ++ xs) ≡ j = length-append (take at s) xs ∙ ap (λ (x : ℕ). x + length xs) (length-take-le at s (omega arith)) in
-    let d : drop j (sets s at xs) ≡ drop j s = ap (drop j) (sets-eq xs s at k) ∙ drop-at (take at s ++ xs) (drop j s) j l in
-    let m-is : j + (m - j) ≡ m = omega arith in
-    ap (λ (i : ℕ). drop i (sets s at xs)) (sym m-is)
-    ∙ sym (drop-drop (m - j) j (sets s at xs))
-    ∙ ap (drop (m - j)) d
-    ∙ drop-drop (m - j) j s
-    ∙ ap (λ (i : ℕ). drop i s) m-is
+module _ (file : LargeFileFlag) (h : PduHeader) (start end m : ℕ) (numbers s : List ℕ) (own : accepted m ≡ firstOf (ownTests file start end (length numbers)) (length numbers / 2))
+    (k : PduHeader) (p : k ≡ filled file m h) where
+  -- refused by the record's tests, or for want of room
+  pub refused-by-header : (b ns : List ℕ) → told ns ≡ writingDirective k (length s) → b ≡ directiveMemory k s
+      → (told ns ≡ writingNak file h start end (length numbers) (length s)) × (b ≡ nakMemory file h start end numbers s)
+  refused-by-header b ns e q =
+      let r = nothing-written file h start end numbers s ns (e ∙ nak-into file h start end (length numbers) m (length s) own k p) in
+      (r .0, q ∙ sym (nothing-begun k s ns e .1) ∙ r .1)
 
-module _ (file : LargeFileFlag) (h : PduHeader) (start end : ℕ) (numbers s : List ℕ) (k : PduHeader)
-    (e : accepted (handed-back k) ≡ writingNak file h start end (length numbers) (length s)) where
-  -- the numbers, and then the NAK around them
-  pub nak-written : (w : NakWritten) (u n : ℕ) (b₁ b₂ : List ℕ) → u ≡ offsetWidth file → n ≡ areaStart k
-      → b₁ ≡ sets s n (numbersBytes u numbers) → w ≡ handed-back k → b₂ ≡ around k start end b₁
-      → (accepted w ≡ writingNak file h start end (length numbers) (length s)) × (b₂ ≡ nakMemory file h start end numbers s)
-  unfolding nakMemory nakBytes around areaIn nakOver
-  nak-written w u n b₁ b₂ pu pn e₁ q e₂ =
-      let z = to-write file h start end (length numbers) (length s) (handed-back k) e in
-      let A = startBytes k start end in
-      let B = numbersBytes (offsetWidth (k .file)) numbers in
-      let C = checksumBytes (k .crc) (A ++ B) in
-      let pw : u ≡ offsetWidth (k .file) = pu ∙ sym (ap offsetWidth (z .flag)) in
-      let p₁ : b₁ ≡ sets s (areaStart k) B = e₁ ∙ ap₂ (λ (i x : ℕ). sets s i (numbersBytes x numbers)) pn pw in
-      let size : length B ≡ offsetWidth file * length numbers = numbers-length _ numbers ∙ ap (λ (x : ℕ). x * length numbers) (ap offsetWidth (z .flag)) in
-      let lB : length B ≡ dataEnd k - areaStart k = omega (arith, area-before file h start end (length numbers) (length s) (handed-back k) z) in
-      let room : areaStart k + length B ≤ length s = omega (arith, numbers-room file h start end (length numbers) (length s) (handed-back k) z) in
-      let area : take (dataEnd k - areaStart k) (drop (areaStart k) b₁) ≡ B = ap (λ (x : List ℕ). take (dataEnd k - areaStart k) (drop (areaStart k) x)) p₁ ∙ there (areaStart k) (dataEnd k - areaStart k) B s lB (omega arith) in
-      let long : areaStart k + length B ≤ length ((A ++ B) ++ C) = omega (arith, length-append (A ++ B) C, length-append A B, start-length k start end) in
-      let rest : drop (length ((A ++ B) ++ C)) b₁ ≡ drop (length ((A ++ B) ++ C)) s = ap (drop (length ((A ++ B) ++ C))) p₁ ∙ behind (areaStart k) (length ((A ++ B) ++ C)) B s long room in
-      let bytes : List ℕ → List ℕ = λ x. (A ++ x) ++ checksumBytes (k .crc) (A ++ x) in (
-        ap accepted q ∙ e,
-        e₂
-            ∙ ap (λ (x : List ℕ). bytes x ++ drop (length (bytes x)) b₁) area
-            ∙ ap (λ (x : List ℕ). bytes B ++ x) rest
-            ∙ ap (λ (o : Answer NakWritten). leaves o (λ (x : NakWritten). nakOver (x .header) start end (numbersBytes (offsetWidth (x .header .file)) numbers)) s) e,
-      )
+  -- header, scope, numbers and checksum, one behind the other
+  module _ (v : ℕ) (b : List ℕ) (e : accepted v ≡ writingDirective k (length s)) (q : b ≡ directiveMemory k s) where
+    can : (areaStart k ≤ pduLength k) × (scopeFits (k .file) start end ≡ true)
+    can = can-begin file h start end (length numbers) m (length s) own k p
+
+    pub scope-goes : (areaStart k ≤ length b) × (scopeFits (k .file) start end ≡ true)
+    scope-goes = (scope-room k start end v s b e q (can .0), can .1)
+
+    whole : accepted (handed-back k) ≡ writingNak file h start end (length numbers) (length s)
+    whole = begun-nak file h start end (length numbers) m (length s) own k p v e
+
+    z : ToWrite file h start end (length numbers) (length s) (handed-back k)
+    z = to-write file h start end (length numbers) (length s) (handed-back k) whole
+
+    module _ (b₁ : List ℕ) (q₁ : b₁ ≡ sets b (headerLength k) (scopeBytes k start end)) where
+      started : b₁ ≡ sets s 0 (startBytes k start end)
+      started = begun-sets k start end v s b e q b₁ q₁
+
+      pub numbers-go : (n : ℕ) → n ≡ areaStart k → (n + offsetWidth file * length numbers ≤ length b₁) × (length numbers ≡ 2 * (length numbers / 2))
+      numbers-go n pn =
+          let l : length b₁ ≡ length s = ap length started ∙ length-sets s 0 (startBytes k start end) in
+          (omega (arith, numbers-room file h start end (length numbers) (length s) (handed-back k) z), z .even)
+
+      pub nak-written : (u n d : ℕ) (b₂ b₃ : List ℕ) → u ≡ offsetWidth file → n ≡ areaStart k
+          → b₂ ≡ sets b₁ n (numbersBytes u numbers) → d ≡ dataEnd k → b₃ ≡ crcAdded (k .crc) d b₂
+          → (accepted (record { header = k; length = v }) ≡ writingNak file h start end (length numbers) (length s)) × (b₃ ≡ nakMemory file h start end numbers s)
+      unfolding nakMemory nakBytes
+      nak-written u n d b₂ b₃ pu pn e₂ pd e₃ =
+          let A = startBytes k start end in
+          let B = numbersBytes (offsetWidth (k .file)) numbers in
+          let pw : u ≡ offsetWidth (k .file) = pu ∙ sym (ap offsetWidth (z .flag)) in
+          let p₂ : b₂ ≡ sets s 0 (A ++ B) = then-sets A B s n (start-length k start end ∙ sym pn) started (e₂ ∙ ap (λ (x : ℕ). sets b₁ n (numbersBytes x numbers)) pw) in
+          let size : length B ≡ offsetWidth file * length numbers = numbers-length _ numbers ∙ ap (λ (x : ℕ). x * length numbers) (ap offsetWidth (z .flag)) in
+          let end-is : d ≡ areaStart k + length B = omega (arith, area-before file h start end (length numbers) (length s) (handed-back k) z) in
+          let fit : d + 2 * crcBit (k .crc) ≤ length s = omega (arith, z .whole, z .room-is) in (
+            ap (λ (x : ℕ). accepted (record { header = k; length = x })) (begun-length k (length s) v e) ∙ whole,
+            sealed k start end d B s b₂ b₃ end-is fit p₂ e₃
+                ∙ ap (λ (o : Answer NakWritten). leaves o (λ (x : NakWritten). nakOver (x .header) start end (numbersBytes (offsetWidth (x .header .file)) numbers)) s) whole,
+          )
 
 -- with no list nothing stands between the scope and the checksum
-pub none-written : (file : LargeFileFlag) (h : PduHeader) (start end : ℕ) (s : List ℕ) (k : PduHeader) (w : NakWritten) (b : List ℕ) → accepted (handed-back k) ≡ writingNak file h start end 0 (length s)
-    → w ≡ handed-back k → b ≡ around k start end s
-    → (accepted w ≡ writingNak file h start end 0 (length s)) × (b ≡ nakMemory file h start end [] s)
+pub none-written : (file : LargeFileFlag) (h : PduHeader) (start end m : ℕ) (s : List ℕ) (own : accepted m ≡ firstOf (ownTests file start end 0) 0) (k : PduHeader) → k ≡ filled file m h
+    → (v : ℕ) (b b₁ b₂ : List ℕ) (d : ℕ) → accepted v ≡ writingDirective k (length s) → b ≡ directiveMemory k s → b₁ ≡ sets b (headerLength k) (scopeBytes k start end) → d ≡ dataEnd k → b₂ ≡ crcAdded (k .crc) d b₁
+    → (accepted (record { header = k; length = v }) ≡ writingNak file h start end 0 (length s)) × (b₂ ≡ nakMemory file h start end [] s)
 unfolding numbersBytes
-none-written file h start end s k w b e q p = nak-written file h start end [] s k e w (offsetWidth file) (areaStart k) s b refl refl refl q p
+none-written file h start end m s own k p v b b₁ b₂ d e q q₁ pd e₂ =
+    nak-written file h start end m [] s own k p v b e q b₁ q₁ (offsetWidth file) (areaStart k) d b₁ b₂ refl refl refl pd e₂

@@ -5,20 +5,21 @@ use lib.ListN.{length, take, drop}
 use Rattle.fields.specs.Answer.{Answer, accepted, told, Test, firstOf, leaves}
 use Rattle.fields.specs.Refusal.{paper}
 use Rattle.header.specs.declared.PduHeader.{PduHeader}
+use Rattle.header.specs.declared.flags.LargeFileFlag.{LargeFileFlag}
 use Rattle.header.specs.Header.{dataEnd}
-use Rattle.header.specs.Directive.{directiveTests}
+use Rattle.header.specs.Directive.{directiveTests, noRoom}
 use Rattle.nak.specs.declared.write.NakWritten.{NakWritten}
 use Rattle.nak.specs.declared.reserve.ReservedNak.{ReservedNak}
 use Rattle.nak.specs.declared.reserve.ReserveResult.{ReserveResult}
 use Rattle.nak.specs.declared.reserve.ReserveResult.the-variants.{Reserved, Refused}
 use Rattle.nak.specs.Nak.{areaStart}
-use Rattle.nak.specs.Writing.{nakOver, filled, scopeTooLarge, tooMany, noRoom, intoRoom}
+use Rattle.nak.specs.Writing.{nakOver, filled, scopeTooLarge, tooMany, intoRoom}
 
 abbrev pub reserveAnswer : ReserveResult → Answer ReservedNak
 reserveAnswer (Reserved r) = accepted r
 reserveAnswer (Refused r) = told (paper r)
 
--- '3, 4, 14', since C-05 21, '10' of n pairs (13 is given where a record is built, C-12): reserving and finishing begin with these
+-- '3, 4, 14', since C-05 21, '10' of n pairs (13 is given where a record is built, C-12)
 unfoldable pub pairTests : PduHeader → ℕ → List Test
 pairTests h n = directiveTests h ++ (tooMany (h .file) n ∷ [])
 
@@ -38,9 +39,13 @@ reserving h n room = firstOf (pairTests h n ++ (noRoom room (keeping h n) ∷ []
 
 -- ---- finishing: direction and length are worked out anew from the record's flags, widths and pair count
 
--- finishing: those, then '9'
+-- '10' of n pairs, '9'
+unfoldable pub ownFinish : LargeFileFlag → ℕ → ℕ → ℕ → List Test
+ownFinish file n start end = tooMany file n ∷ scopeTooLarge file start end ∷ []
+
+-- '3, 4, 14', since C-05 21, and then those
 unfoldable pub finishTests : PduHeader → ℕ → ℕ → ℕ → List Test
-finishTests h n start end = pairTests h n ++ (scopeTooLarge (h .file) start end ∷ [])
+finishTests h n start end = directiveTests h ++ ownFinish (h .file) n start end
 
 -- and '11'
 unfoldable pub finishing : ReservedNak → ℕ → ℕ → ℕ → Answer NakWritten

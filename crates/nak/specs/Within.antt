@@ -6,8 +6,9 @@ use Rattle.fields.specs.Answer.{Answer, accepted, andThen, Test, firstOf}
 use Rattle.header.specs.declared.PduHeader.{PduHeader}
 use Rattle.header.specs.declared.flags.LargeFileFlag.{LargeFileFlag}
 use Rattle.header.specs.Header.{pduLength}
+use Rattle.header.specs.Directive.{noRoom}
 use Rattle.nak.specs.declared.Nak.{Nak}
-use Rattle.nak.specs.Writing.{noRoom, judgingNak}
+use Rattle.nak.specs.Writing.{judgingNak}
 use Rattle.nak.specs.Comparing.{sameNak}
 
 -- those tests, then 11, as in `intoRoom`; of what is accepted only the written length

@@ -15,7 +15,7 @@ use Rattle.header.specs.declared.flags.LargeFileFlag.{LargeFileFlag}
 use Rattle.header.specs.declared.flags.LargeFileFlag.the-variants.{Normal, Large}
 use Rattle.header.specs.Flags.{crcBit}
 use Rattle.header.specs.Header.{pduLength, headerBytes, withDirection, withFileFlag, withLength}
-use Rattle.header.specs.Directive.{directiveTests}
+use Rattle.header.specs.Directive.{directiveTests, noRoom}
 use Rattle.header.specs.Verifying.{checksumBytes}
 use Rattle.nak.specs.declared.write.NakWritten.{NakWritten}
 use Rattle.nak.specs.declared.write.WriteResult.{WriteResult}
@@ -34,9 +34,13 @@ unfoldable pub numbersBytes : ℕ → List ℕ → List ℕ
 numbersBytes w [] = []
 numbersBytes w (v ∷ vs) = beBytes w v ++ numbersBytes w vs
 
--- header, directive code 8, start of scope, end of scope
+-- directive code 8, start of scope, end of scope
+unfoldable pub scopeBytes : PduHeader → ℕ → ℕ → List ℕ
+scopeBytes h start end = beBytes 1 nakCode ++ beBytes (offsetWidth (h .file)) start ++ beBytes (offsetWidth (h .file)) end
+
+-- the header, and then those
 unfoldable pub startBytes : PduHeader → ℕ → ℕ → List ℕ
-startBytes h start end = headerBytes h ++ beBytes 1 nakCode ++ beBytes (offsetWidth (h .file)) start ++ beBytes (offsetWidth (h .file)) end
+startBytes h start end = headerBytes h ++ scopeBytes h start end
 
 -- then the request area, and with the flag the checksum of all that
 unfoldable pub nakOver : PduHeader → ℕ → ℕ → List ℕ → List ℕ
@@ -78,13 +82,13 @@ scopeTooLarge file start end = when (not (scopeFits file start end)) (9 ∷ star
 abbrev pub tooMany : LargeFileFlag → ℕ → Test
 tooMany file n = when (ltb (mostPairs file) n) (10 ∷ n ∷ mostPairs file ∷ [])
 
--- 11: output buffer short, needing the whole PDU
-abbrev pub noRoom : ℕ → PduHeader → Test
-noRoom room h = when (ltb room (pduLength h)) (11 ∷ room ∷ pduLength h ∷ [])
+-- '12; 9; 10'
+unfoldable pub ownTests : LargeFileFlag → ℕ → ℕ → ℕ → List Test
+ownTests file start end count = oddCount count ∷ scopeTooLarge file start end ∷ tooMany file (count / 2) ∷ []
 
--- '3; 4; 14 for source, sequence, destination', since C-05 21, '12; 9; 10'
+-- '3; 4; 14 for source, sequence, destination', since C-05 21, and then those
 unfoldable pub nakTests : LargeFileFlag → PduHeader → ℕ → ℕ → ℕ → List Test
-nakTests file h start end count = directiveTests h ++ (oddCount count ∷ scopeTooLarge file start end ∷ tooMany file (count / 2) ∷ [])
+nakTests file h start end count = directiveTests h ++ ownTests file start end count
 
 -- the judgement but for the room: the header that is handed back
 unfoldable pub judgingNak : LargeFileFlag → PduHeader → ℕ → ℕ → ℕ → Answer PduHeader

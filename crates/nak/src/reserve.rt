@@ -6,13 +6,14 @@ ghost use Rattle.fields.specs.Answer.{firstOf};
 ghost use Rattle.header.specs.Answers.{lengthAnswer};
 ghost use Rattle.header.specs.Header.{headerLength};
 ghost use Rattle.nak.specs.Writing.{writeAnswer, mostPairs};
-ghost use Rattle.nak.specs.Reserving.{reserveAnswer, pairTests, keeping, placed, reserving, finishTests, finishing, finishedMemory};
+ghost use Rattle.nak.specs.Reserving.{reserveAnswer, pairTests, keeping, placed, reserving, ownFinish, finishing, finishedMemory};
 ghost use Rattle.nak.specs.Within.{lengthInto};
 use crate::area_start;
 use crate::write;
 use crate::write::NakWritten;
 use crate::write::WriteResult;
 use fields::Refusal;
+use header::LargeFileFlag;
 use header::LengthResult;
 use header::PduHeader;
 use header::verify;
@@ -83,20 +84,18 @@ fn reservable(header: PduHeader, count: usize, room: usize) -> LengthResult
     }
 }
 
-fn finishable(header: PduHeader, count: usize, start: u64, end: u64, room: usize) -> LengthResult
-    ensures { λ r. ⌜ lengthAnswer r ≡ lengthInto (finishTests header count start end) (keeping header count) room ⌝ }
+// Finishing's own tests, which stand behind the record's: the pairs.
+fn judge_finish(file: LargeFileFlag, count: usize, start: u64, end: u64) -> LengthResult
+    ensures { λ r. ⌜ lengthAnswer r ≡ firstOf (ownFinish file count start end) count ⌝ }
 {
-    let answer = judge_pairs(header, count);
-    match answer {
-        LengthResult::Refused(refusal) => LengthResult::Refused(refusal),
-        LengthResult::Length(_) => {
-            let file = header.file;
-            if !write::scope_fits(file, start, end) {
-                return LengthResult::Refused(Refusal::InvalidStartOrEndOfScope { start, end });
-            }
-            write::with_room(keep(header, count), room)
-        }
+    let most = write::most_pairs(file);
+    if most < count {
+        return LengthResult::Refused(Refusal::TooManySegmentRequests { found: count, most });
     }
+    if !write::scope_fits(file, start, end) {
+        return LengthResult::Refused(Refusal::InvalidStartOrEndOfScope { start, end });
+    }
+    LengthResult::Length(count)
 }
 
 impl ReservedNak {
@@ -117,16 +116,22 @@ impl ReservedNak {
         ensures stored { λ _. ⌜ now (buf .exit) ≡ finishedMemory self start end (now (buf .entry)) ⌝ }
     {
         let given = self.header;
-        let count = self.count;
-        let answer = finishable(given, count, start, end, buf.len());
-        match answer {
-            LengthResult::Refused(refusal) => WriteResult::Refused(refusal),
-            LengthResult::Length(length) => {
+        let file = given.file;
+        let judged = judge_finish(file, self.count, start, end);
+        match judged {
+            LengthResult::Refused(refusal) => write::behind_record(given, refusal),
+            LengthResult::Length(count) => {
                 let header = keep(given, count);
-                let crc = header.crc;
-                write::put_start(buf, header, start, end);
-                verify::add_pdu_crc(buf, write::data_end(header), crc);
-                WriteResult::Written(NakWritten { header, length })
+                let begun = header.write_directive_header(buf);
+                match begun {
+                    LengthResult::Refused(refusal) => WriteResult::Refused(refusal),
+                    LengthResult::Length(length) => {
+                        let crc = header.crc;
+                        write::put_scope(buf, header, start, end);
+                        verify::add_pdu_crc(buf, write::data_end(header), crc);
+                        WriteResult::Written(NakWritten { header, length })
+                    }
+                }
             }
         }
     }

@@ -5,14 +5,13 @@ ghost use mathlib.Core.List.{[], _∷_};
 ghost use Prim.Native.Nat.{_+_, _*_, _/_, _%_, _^_, _≤_, _<_};
 ghost use lib.ListN.{length, getD};
 ghost use lib.Seq.{sets};
-ghost use Rattle.fields.proofs.Judging.{Passed};
-ghost use Rattle.fields.specs.Answer.{firstOf};
+ghost use Rattle.fields.specs.Answer.{told, andThen, firstOf};
+ghost use Rattle.fields.specs.Refusal.{paper};
 ghost use Rattle.header.specs.Answers.{lengthAnswer};
 ghost use Rattle.header.specs.Header.{headerLength, pduLength, dataEnd};
-ghost use Rattle.header.specs.Judging.{recordTests};
-ghost use Rattle.nak.specs.Nak.{offsetWidth, areaStart};
-ghost use Rattle.nak.specs.Writing.{writeAnswer, numbersBytes, startBytes, dataLength, mostPairs, filled, scopeFits, nakTests, noRoom, writingNak, nakMemory};
-ghost use Rattle.nak.specs.Within.{lengthInto};
+ghost use Rattle.header.specs.Directive.{judgingDirective, noRoom};
+ghost use Rattle.nak.specs.Nak.{areaStart};
+ghost use Rattle.nak.specs.Writing.{writeAnswer, numbersBytes, scopeBytes, dataLength, mostPairs, filled, scopeFits, ownTests, nakTests, writingNak, nakMemory};
 use crate::area_start;
 use crate::offset_width;
 use fields::Refusal;
@@ -83,6 +82,35 @@ pub(crate) fn fill(header: PduHeader, file: LargeFileFlag, pairs: usize) -> PduH
         .with_datafield_len(length)
 }
 
+// The NAK's own tests, which stand behind the record's: the pairs.
+fn judge_own(file: LargeFileFlag, start: u64, end: u64, count: usize) -> LengthResult
+    ensures { λ r. ⌜ lengthAnswer r ≡ firstOf (ownTests file start end count) (count / 2) ⌝ }
+{
+    if count % 2 != 0 {
+        return LengthResult::Refused(Refusal::OddCount(count));
+    }
+    if !scope_fits(file, start, end) {
+        return LengthResult::Refused(Refusal::InvalidStartOrEndOfScope { start, end });
+    }
+    let pairs = count / 2;
+    let most = most_pairs(file);
+    if most < pairs {
+        return LengthResult::Refused(Refusal::TooManySegmentRequests { found: pairs, most });
+    }
+    LengthResult::Length(pairs)
+}
+
+// What the NAK's own tests refuse, unless the record is refused, whose tests come first.
+pub(crate) fn behind_record(header: PduHeader, refusal: Refusal) -> WriteResult
+    ensures { λ r. ⌜ writeAnswer r ≡ andThen (judgingDirective header) (λ _. told (paper refusal)) ⌝ }
+{
+    let judged = header.judged_directive();
+    match judged {
+        LengthResult::Refused(first) => WriteResult::Refused(first),
+        LengthResult::Length(_) => WriteResult::Refused(refusal),
+    }
+}
+
 // The writer's judgement but for the room: h. As with `judged_directive`, a record would be longer to hand back.
 pub(crate) fn judge_nak(
     header: PduHeader,
@@ -97,21 +125,11 @@ pub(crate) fn judge_nak(
     match judged {
         LengthResult::Refused(refusal) => LengthResult::Refused(refusal),
         LengthResult::Length(h) => {
-            if count % 2 != 0 {
-                return LengthResult::Refused(Refusal::OddCount(count));
+            let own = judge_own(file, start, end, count);
+            match own {
+                LengthResult::Refused(refusal) => LengthResult::Refused(refusal),
+                LengthResult::Length(_) => LengthResult::Length(h),
             }
-            if !scope_fits(file, start, end) {
-                return LengthResult::Refused(Refusal::InvalidStartOrEndOfScope { start, end });
-            }
-            let pairs = count / 2;
-            let most = most_pairs(file);
-            if most < pairs {
-                return LengthResult::Refused(Refusal::TooManySegmentRequests {
-                    found: pairs,
-                    most,
-                });
-            }
-            LengthResult::Length(h)
         }
     }
 }
@@ -130,35 +148,16 @@ pub(crate) fn with_room(header: PduHeader, room: usize) -> LengthResult
     LengthResult::Length(length)
 }
 
-// The writer's judgement: the bytes that will be written.
-fn writable(
-    header: PduHeader,
-    file: LargeFileFlag,
-    start: u64,
-    end: u64,
-    count: usize,
-    room: usize,
-) -> LengthResult
-    ensures { λ r. ⌜ lengthAnswer r ≡ lengthInto (nakTests file header start end count) (filled file (count / 2) header) room ⌝ }
-{
-    let judged = judge_nak(header, file, start, end, count);
-    match judged {
-        LengthResult::Refused(refusal) => LengthResult::Refused(refusal),
-        LengthResult::Length(_) => with_room(fill(header, file, count / 2), room),
-    }
-}
-
-// Header, directive and scope, at the front of the buffer.
-pub(crate) fn put_start(buf: &mut [u8], header: PduHeader, start: u64, end: u64)
-    requires { ⌜ Passed (recordTests header) × (areaStart header ≤ length (now buf)) × (scopeFits (header .file) start end ≡ true) ⌝ }
-    ensures { λ _. ⌜ now (buf .exit) ≡ sets (now (buf .entry)) 0 (startBytes header start end) ⌝ }
+// Directive and scope, behind the header.
+pub(crate) fn put_scope(buf: &mut [u8], header: PduHeader, start: u64, end: u64)
+    requires { ⌜ (areaStart header ≤ length (now buf)) × (scopeFits (header .file) start end ≡ true) ⌝ }
+    ensures { λ _. ⌜ now (buf .exit) ≡ sets (now (buf .entry)) (headerLength header) (scopeBytes header start end) ⌝ }
 {
     let at = header.header_len();
     let file = header.file;
     let width = offset_width(file);
     let first = at + 1;
     let second = first + width;
-    header.write_to_slice(buf);
     be::write_be(buf, at, 1, NAK_CODE);
     be::write_be(buf, first, width, start);
     be::write_be(buf, second, width, end);
@@ -232,15 +231,21 @@ pub fn write_no_segment_requests(
     ensures stored { λ _. ⌜ now (buf .exit) ≡ nakMemory (header .file) header start end [] (now (buf .entry)) ⌝ }
 {
     let file = header.file;
-    let answer = writable(header, file, start, end, 0, buf.len());
-    match answer {
-        LengthResult::Refused(refusal) => WriteResult::Refused(refusal),
-        LengthResult::Length(length) => {
-            let header = fill(header, file, 0);
-            let crc = header.crc;
-            put_start(buf, header, start, end);
-            verify::add_pdu_crc(buf, data_end(header), crc);
-            WriteResult::Written(NakWritten { header, length })
+    let judged = judge_own(file, start, end, 0);
+    match judged {
+        LengthResult::Refused(refusal) => behind_record(header, refusal),
+        LengthResult::Length(pairs) => {
+            let header = fill(header, file, pairs);
+            let begun = header.write_directive_header(buf);
+            match begun {
+                LengthResult::Refused(refusal) => WriteResult::Refused(refusal),
+                LengthResult::Length(length) => {
+                    let crc = header.crc;
+                    put_scope(buf, header, start, end);
+                    verify::add_pdu_crc(buf, data_end(header), crc);
+                    WriteResult::Written(NakWritten { header, length })
+                }
+            }
         }
     }
 }
@@ -256,17 +261,22 @@ pub fn write_normal_file_size(
     ensures answered { λ r. ⌜ writeAnswer r ≡ writingNak LargeFileFlag.Normal header start end (length (now (numbers .entry))) (length (now (buf .entry))) ⌝ }
     ensures stored { λ _. ⌜ now (buf .exit) ≡ nakMemory LargeFileFlag.Normal header start end (now (numbers .entry)) (now (buf .entry)) ⌝ }
 {
-    let count = numbers.len();
-    let answer = writable(header, LargeFileFlag::Normal, start, end, count, buf.len());
-    match answer {
-        LengthResult::Refused(refusal) => WriteResult::Refused(refusal),
-        LengthResult::Length(length) => {
-            let header = fill(header, LargeFileFlag::Normal, count / 2);
-            let crc = header.crc;
-            put_normal(buf, area_start(header), numbers);
-            put_start(buf, header, start, end);
-            verify::add_pdu_crc(buf, data_end(header), crc);
-            WriteResult::Written(NakWritten { header, length })
+    let judged = judge_own(LargeFileFlag::Normal, start, end, numbers.len());
+    match judged {
+        LengthResult::Refused(refusal) => behind_record(header, refusal),
+        LengthResult::Length(pairs) => {
+            let header = fill(header, LargeFileFlag::Normal, pairs);
+            let begun = header.write_directive_header(buf);
+            match begun {
+                LengthResult::Refused(refusal) => WriteResult::Refused(refusal),
+                LengthResult::Length(length) => {
+                    let crc = header.crc;
+                    put_scope(buf, header, start, end);
+                    put_normal(buf, area_start(header), numbers);
+                    verify::add_pdu_crc(buf, data_end(header), crc);
+                    WriteResult::Written(NakWritten { header, length })
+                }
+            }
         }
     }
 }
@@ -282,17 +292,22 @@ pub fn write_large_file_size(
     ensures answered { λ r. ⌜ writeAnswer r ≡ writingNak LargeFileFlag.Large header start end (length (now (numbers .entry))) (length (now (buf .entry))) ⌝ }
     ensures stored { λ _. ⌜ now (buf .exit) ≡ nakMemory LargeFileFlag.Large header start end (now (numbers .entry)) (now (buf .entry)) ⌝ }
 {
-    let count = numbers.len();
-    let answer = writable(header, LargeFileFlag::Large, start, end, count, buf.len());
-    match answer {
-        LengthResult::Refused(refusal) => WriteResult::Refused(refusal),
-        LengthResult::Length(length) => {
-            let header = fill(header, LargeFileFlag::Large, count / 2);
-            let crc = header.crc;
-            put_large(buf, area_start(header), numbers);
-            put_start(buf, header, start, end);
-            verify::add_pdu_crc(buf, data_end(header), crc);
-            WriteResult::Written(NakWritten { header, length })
+    let judged = judge_own(LargeFileFlag::Large, start, end, numbers.len());
+    match judged {
+        LengthResult::Refused(refusal) => behind_record(header, refusal),
+        LengthResult::Length(pairs) => {
+            let header = fill(header, LargeFileFlag::Large, pairs);
+            let begun = header.write_directive_header(buf);
+            match begun {
+                LengthResult::Refused(refusal) => WriteResult::Refused(refusal),
+                LengthResult::Length(length) => {
+                    let crc = header.crc;
+                    put_scope(buf, header, start, end);
+                    put_large(buf, area_start(header), numbers);
+                    verify::add_pdu_crc(buf, data_end(header), crc);
+                    WriteResult::Written(NakWritten { header, length })
+                }
+            }
         }
     }
 }

@@ -1,27 +1,39 @@
--- `nak::write::write_no_segment_requests` meets its contract: a refusal that changes nothing, or the NAK around no request.
+-- `nak::write::write_no_segment_requests` meets its contract: a refusal that changes nothing, or start and checksum.
 -- Assumes nothing.
-use mathlib.Core.Path.{refl, sym, ap, _∙_}
+use mathlib.Core.Path.{sym, ap, _∙_}
 use mathlib.Core.List.{[]}
 use Rattle.header.specs.Answers.{lengthAnswer}
-use Rattle.nak.proofs.Writing.{can-write, length-handed, Ready, ready, stored-around, nothing-written, none-written}
+use Rattle.nak.proofs.Writing.{own-fits, refused-by-own, refused-by-header, scope-goes, none-written}
 use borrow.Author.Needs.{needs}
 use Rattle.nak.proofs.write.write_no_segment_requests.Statement.{statement}
 use Rattle.nak.proofs.write.write_no_segment_requests.Tie as tie
 
-writable-requires : tie.Need-writable-requires
-writable-requires c κs = search needs
+judge-own-requires : tie.Need-judge-own-requires
+judge-own-requires c κs = search needs
 
-enum-known-answer : tie.Need-enum-known-answer
-enum-known-answer c = search needs
+enum-known-judged : tie.Need-enum-known-judged
+enum-known-judged c = search needs
 
-enum-known-answer-2 : tie.Need-enum-known-answer-2
-enum-known-answer-2 c = search needs
+behind-record-requires : tie.Need-behind-record-requires
+behind-record-requires c κs = search needs
+
+enum-known-judged-2 : tie.Need-enum-known-judged-2
+enum-known-judged-2 c = search needs
 
 fill-requires : tie.Need-fill-requires
-fill-requires c κs = search needs
+fill-requires c κs = own-fits _ _ _ _ _ (ap lengthAnswer (sym (c .before .judged2 .given .1)) ∙ c .before .before .before .judge-own .ensures)
 
-put-start-requires : tie.Need-put-start-requires
-put-start-requires c κs = let z = ready _ _ _ _ _ _ _ (can-write _ _ _ _ _ _ _ _ (ap lengthAnswer (sym (c .before .before .before .answer2 .given .1)) ∙ c .before .before .before .before .before .writable .ensures) (c .before .fill .ensures)) _ refl in (z .good, z .start-room, z .scope)
+write-directive-header-requires : tie.Need-write-directive-header-requires
+write-directive-header-requires c κs = search needs
+
+enum-known-begun : tie.Need-enum-known-begun
+enum-known-begun c = search needs
+
+enum-known-begun-2 : tie.Need-enum-known-begun-2
+enum-known-begun-2 c = search needs
+
+put-scope-requires : tie.Need-put-scope-requires
+put-scope-requires c κs = scope-goes _ _ _ _ _ [] _ (ap lengthAnswer (sym (c .before .before .before .before .before .before .before .before .before .before .judged2 .given .1)) ∙ c .before .before .before .before .before .before .before .before .before .before .before .before .judge-own .ensures) _ (c .before .before .before .before .before .before .before .before .fill .ensures) _ _ (ap lengthAnswer (sym (c .before .before .begun2 .given .1)) ∙ c .before .before .before .before .before .before .write-directive-header .ensures .0) (c .before .before .before .before .before .before .write-directive-header .ensures .1)
 
 data-end-requires : tie.Need-data-end-requires
 data-end-requires c κs = search needs
@@ -30,25 +42,19 @@ add-pdu-crc-requires : tie.Need-add-pdu-crc-requires
 add-pdu-crc-requires c κs = search needs
 
 returns : tie.Need-returns
-returns c = nothing-written _ _ _ _ [] _ _ (ap lengthAnswer (sym (c .before .answer .given .1)) ∙ c .before .before .before .writable .ensures)
+returns c = refused-by-own _ _ _ _ [] _ _ _ (ap lengthAnswer (sym (c .before .before .judged .given .1)) ∙ c .before .before .before .before .judge-own .ensures) (c .behind-record .ensures)
 
 same-length : tie.Need-same-length
 same-length c = search needs
 
 returns-2 : tie.Need-returns-2
-returns-2 c = none-written _ _ _ _ _ _ _ _ (can-write _ _ _ _ _ _ _ _ (ap lengthAnswer (sym (c .before .before .before .before .before .before .before .before .before .before .before .answer2 .given .1)) ∙ c .before .before .before .before .before .before .before .before .before .before .before .before .before .writable .ensures) (c .before .before .before .before .before .before .before .before .before .fill .ensures)) (length-handed _ _ _ _ _ (ap lengthAnswer (sym (c .before .before .before .before .before .before .before .before .before .before .before .answer2 .given .1)) ∙ c .before .before .before .before .before .before .before .before .before .before .before .before .before .writable .ensures) (c .before .before .before .before .before .before .before .before .before .fill .ensures)) (stored-around _ _ _ _ _ _ _ _ (ready _ _ _ _ _ _ _ (can-write _ _ _ _ _ _ _ _ (ap lengthAnswer (sym (c .before .before .before .before .before .before .before .before .before .before .before .answer2 .given .1)) ∙ c .before .before .before .before .before .before .before .before .before .before .before .before .before .writable .ensures) (c .before .before .before .before .before .before .before .before .before .fill .ensures)) _ refl) refl (c .before .before .before .data-end .ensures) (c .before .before .before .before .before .before .before .put-start .ensures) (c .before .before .add-pdu-crc .ensures))
+returns-2 c = refused-by-header _ _ _ _ _ [] _ (ap lengthAnswer (sym (c .before .before .before .before .before .before .before .before .before .judged2 .given .1)) ∙ c .before .before .before .before .before .before .before .before .before .before .before .judge-own .ensures) _ (c .before .before .before .before .before .before .before .fill .ensures) _ _ (ap lengthAnswer (sym (c .before .begun .given .1)) ∙ c .before .before .before .before .before .write-directive-header .ensures .0) (c .before .before .before .before .before .write-directive-header .ensures .1)
+
+same-length-2 : tie.Need-same-length-2
+same-length-2 c = search needs
+
+returns-3 : tie.Need-returns-3
+returns-3 c = none-written _ _ _ _ _ _ (ap lengthAnswer (sym (c .before .before .before .before .before .before .before .before .before .before .before .before .before .before .before .before .before .before .judged2 .given .1)) ∙ c .before .before .before .before .before .before .before .before .before .before .before .before .before .before .before .before .before .before .before .before .judge-own .ensures) _ (c .before .before .before .before .before .before .before .before .before .before .before .before .before .before .before .before .fill .ensures) _ _ _ _ _ (ap lengthAnswer (sym (c .before .before .before .before .before .before .before .before .before .before .begun2 .given .1)) ∙ c .before .before .before .before .before .before .before .before .before .before .before .before .before .before .write-directive-header .ensures .0) (c .before .before .before .before .before .before .before .before .before .before .before .before .before .before .write-directive-header .ensures .1) (c .before .before .before .before .before .before .before .put-scope .ensures) (c .before .before .before .data-end .ensures) (c .before .before .add-pdu-crc .ensures)
 
 pub write-no-segment-requests-spec : {M : Type 1} → statement M
-write-no-segment-requests-spec =
-    tie.close
-    (tie.spec
-    writable-requires
-    enum-known-answer
-    enum-known-answer-2
-    fill-requires
-    put-start-requires
-    data-end-requires
-    add-pdu-crc-requires
-    returns
-    same-length
-    returns-2)
+write-no-segment-requests-spec = tie.close (tie.spec judge-own-requires enum-known-judged behind-record-requires enum-known-judged-2 fill-requires write-directive-header-requires enum-known-begun enum-known-begun-2 put-scope-requires data-end-requires add-pdu-crc-requires returns same-length returns-2 same-length-2 returns-3)

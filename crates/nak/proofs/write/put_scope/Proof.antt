@@ -1,0 +1,36 @@
+-- `nak::write::put_scope` meets its contract: directive and scope, each behind the one before.
+-- Assumes nothing.
+use Rattle.nak.proofs.Writing.{scope-stored}
+use borrow.Author.Needs.{needs}
+use Rattle.nak.proofs.write.put_scope.Statement.{statement}
+use Rattle.nak.proofs.write.put_scope.Tie as tie
+
+header-len-requires : tie.Need-header-len-requires
+header-len-requires c κs = search needs
+
+offset-width-requires : tie.Need-offset-width-requires
+offset-width-requires c κs = search needs
+
+add-first : tie.Need-add-first
+add-first c = search needs
+
+add-second : tie.Need-add-second
+add-second c = search needs
+
+write-be-requires : tie.Need-write-be-requires
+write-be-requires c κs = search needs
+
+write-be-requires-2 : tie.Need-write-be-requires-2
+write-be-requires-2 c κs = search needs
+
+write-be-requires-3 : tie.Need-write-be-requires-3
+write-be-requires-3 c κs = search needs
+
+same-length : tie.Need-same-length
+same-length c = search needs
+
+returns : tie.Need-returns
+returns c = scope-stored _ _ _ _ _ _ _ _ _ (c .before .before .before .before .before .before .before .before .before .before .before .before .before .before .before .pre .0) (c .before .before .before .before .before .before .before .before .before .before .before .before .before .before .before .pre .1) (c .before .before .before .before .before .before .before .before .before .before .before .before .before .header-len .ensures .0) (c .before .before .before .before .before .before .before .before .before .before .before .before .offset-width .ensures .0) (c .before .before .before .before .before .before .before .before .before .before .before .before .offset-width .ensures .2) (c .before .before .before .before .before .before .before .before .before .before .write-be .ensures) (c .before .before .before .before .before .before .write-be2 .ensures) (c .before .before .write-be3 .ensures)
+
+pub put-scope-spec : {M : Type 1} → statement M
+put-scope-spec = tie.close (tie.spec header-len-requires offset-width-requires add-first add-second write-be-requires write-be-requires-2 write-be-requires-3 same-length returns)
