@@ -207,17 +207,17 @@ pub refused-room : (h : PduHeader) (room : ℕ) (ns : List ℕ) → told ns ≡ 
 unfolding writingDirective
 refused-room h room ns e = refused-directive h (noRoom room h ∷ []) (pduLength h) ns e
 
-module _ (h : PduHeader) (good : Passed (directiveTests h)) (room p : ℕ) (is : p ≡ pduLength h) where
-  room-decides : writingDirective h room ≡ firstOf (noRoom room h ∷ []) (pduLength h)
-  unfolding writingDirective
-  room-decides = passed-on (directiveTests h) (noRoom room h ∷ []) (pduLength h) good
+pub no-room : (h : PduHeader) (room p : ℕ) → p ≡ pduLength h → room < p → told (11 ∷ room ∷ p ∷ []) ≡ firstOf (noRoom room h ∷ []) (pduLength h)
+unfolding told
+no-room h room p e l = rw (← e, lt-ltb _ _ l)
 
-  pub short-of-pdu : room < p → told (11 ∷ room ∷ p ∷ []) ≡ writingDirective h room
-  unfolding told
-  short-of-pdu l = rw (room-decides, ← is, lt-ltb _ _ l)
+pub has-room : (h : PduHeader) (room p : ℕ) → p ≡ pduLength h → p ≤ room → accepted p ≡ firstOf (noRoom room h ∷ []) (pduLength h)
+has-room h room p e l = rw (← e, le-ltb _ _ l)
 
-  pub holds-pdu : p ≤ room → accepted p ≡ writingDirective h room
-  holds-pdu l = rw (room-decides, ← is, le-ltb _ _ l)
+-- behind a record that passed the room decides
+pub room-decides : (h : PduHeader) (room : ℕ) → Passed (directiveTests h) → firstOf (noRoom room h ∷ []) (pduLength h) ≡ writingDirective h room
+unfolding writingDirective
+room-decides h room good = sym (passed-on (directiveTests h) (noRoom room h ∷ []) (pduLength h) good)
 
 -- a refused write changes no byte
 pub nothing-begun : (h : PduHeader) (s ns : List ℕ) → told ns ≡ writingDirective h (length s) → (told ns ≡ writingDirective h (length s)) × (s ≡ directiveMemory h s)

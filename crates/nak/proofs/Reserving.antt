@@ -9,20 +9,20 @@ use lib.ListN.{length}
 use lib.Seq.{sets}
 use borrow.Author.Tests.{lt-ltb, le-ltb, ltb-false, not-false}
 use Rattle.fields.specs.Answer.{Answer, accepted, told, andThen, Test, firstOf, leaves}
-use Rattle.fields.proofs.Judging.{Passed, passed, all-passed, passed-first, passed-last, passed-on, refused-on, told-leaves, behind-leaves}
+use Rattle.fields.proofs.Judging.{Passed, passed, all-passed, passed-first, passed-last, passed-on, refused-on}
 use Rattle.header.specs.declared.PduHeader.{PduHeader}
 use Rattle.header.specs.Header.{headerLength, pduLength, dataEnd}
 use Rattle.header.specs.Directive.{directiveTests, judgingDirective, noRoom, writingDirective, directiveMemory}
 use Rattle.header.specs.declared.flags.LargeFileFlag.{LargeFileFlag}
 use Rattle.header.specs.Verifying.{crcAdded}
-use Rattle.header.proofs.Directives.{refused-directive, nothing-begun, begun-length}
+use Rattle.header.proofs.Directives.{refused-directive, begun-length}
 use Rattle.nak.specs.declared.write.NakWritten.{NakWritten}
 use Rattle.nak.specs.declared.reserve.ReservedNak.{ReservedNak}
 use Rattle.nak.specs.Nak.{areaStart}
 use Rattle.nak.specs.Writing.{nakOver, mostPairs, filled, scopeFits, tooMany, scopeBytes, judgingNak, intoRoom, writingNak}
 use Rattle.nak.specs.Reserving.{pairTests, keeping, placed, reserving, ownFinish, finishTests, finishing, areaIn, finishedMemory}
 use Rattle.nak.specs.Within.{lengthInto}
-use Rattle.nak.proofs.Writing.{handed-back, around, own-pass, judged-nak, into-room, refused-into, length-into, length-passed, begun-into, refused-into-first, scope-room, begun-sets, filled-area, filled-flag, ToWrite, to-write, area-before, stored-around}
+use Rattle.nak.proofs.Writing.{handed-back, around, own-pass, judged-nak, into-room, length-into, length-passed, begun-into, refused-by-tests, refused-by-header, begun-sets, ToWrite, to-write, area-before, stored-around}
 
 -- ---- the judgement of the pairs
 
@@ -109,6 +109,10 @@ module _ (file : LargeFileFlag) (n start end m : ℕ) (e : accepted m ≡ firstO
   finish-pairs : m ≡ n
   finish-pairs = passed (ownFinish file n start end) m n e .1
 
+  pub finish-scope : scopeFits file start end ≡ true
+  unfolding ownFinish
+  finish-scope = not-false _ (own-passed .1 .0)
+
   pub finish-fits : m ≤ mostPairs file
   unfolding ownFinish
   finish-fits = rw finish-pairs (ltb-false _ _ (own-passed .0))
@@ -117,17 +121,6 @@ module _ (file : LargeFileFlag) (n start end m : ℕ) (e : accepted m ≡ firstO
 module _ (h : PduHeader) (n start end m : ℕ) (own : accepted m ≡ firstOf (ownFinish (h .file) n start end) n) (k : PduHeader) (p : k ≡ keeping h m) where
   kept : k ≡ keeping h n
   kept = p ∙ ap (keeping h) (finish-pairs (h .file) n start end m own)
-
-  finish-into : (room : ℕ) → writingDirective k room ≡ lengthInto (finishTests h n start end) (keeping h n) room
-  unfolding finishTests
-  finish-into room = begun-into (ownFinish (h .file) n start end) (h .file) n h k room kept (own-passed (h .file) n start end m own)
-
-  -- behind it the scope goes where it fits
-  pub scope-goes : (v : ℕ) (s b : List ℕ) → accepted v ≡ writingDirective k (length s) → b ≡ directiveMemory k s → (areaStart k ≤ length b) × (scopeFits (k .file) start end ≡ true)
-  unfolding ownFinish
-  scope-goes v s b e q =
-      let flag : k .file ≡ h .file = ap (λ (x : PduHeader). x .file) kept ∙ filled-flag (h .file) n h in
-      (scope-room k start end v s b e q (rw kept (filled-area (h .file) n h)), ap (λ (f : LargeFileFlag). scopeFits f start end) flag ∙ not-false _ (own-passed (h .file) n start end m own .1 .0))
 
 -- what can be finished could be written, with as many pairs lent
 pub finish-writes : (r : ReservedNak) (start end room : ℕ) (w : NakWritten) → accepted w ≡ finishing r start end room
@@ -151,34 +144,29 @@ finish-writes r start end room w e =
 
 -- ---- what finishing leaves in the buffer
 
--- refused by one of finishing's own tests, or by the record's, which come first
-pub own-unfinished : (r : ReservedNak) (start end : ℕ) (s ns : List ℕ) (o : Answer NakWritten) → told ns ≡ firstOf (ownFinish (r .header .file) (r .count) start end) (r .count)
+pub not-own : (r : ReservedNak) (start end : ℕ) (s ns : List ℕ) (o : Answer NakWritten) → told ns ≡ firstOf (ownFinish (r .header .file) (r .count) start end) (r .count)
     → o ≡ andThen (judgingDirective (r .header)) (λ _. told ns) → (o ≡ finishing r start end (length s)) × (s ≡ finishedMemory r start end s)
 unfolding finishing finishedMemory finishTests
-own-unfinished r start end s ns o e q =
-    let d = q ∙ refused-into-first (ownFinish (r .header .file) (r .count) start end) _ (r .header) (keeping (r .header) (r .count)) (length s) ns e in
-    (d, behind-leaves (judgingDirective (r .header)) ns _ s ∙ ap (λ (x : Answer NakWritten). leaves x (λ (w : NakWritten). nakOver (w .header) start end (areaIn (w .header) s)) s) (sym q ∙ d))
+not-own r start end s ns o e q = refused-by-tests (ownFinish (r .header .file) (r .count) start end) _ (r .header) _ _ s ns o e q
 
 module _ (r : ReservedNak) (start end m : ℕ) (s : List ℕ) (own : accepted m ≡ firstOf (ownFinish (r .header .file) (r .count) start end) (r .count)) (k : PduHeader) (p : k ≡ keeping (r .header) m) where
   abbrev h : PduHeader
   h = r .header
 
-  -- refused by the record's tests, or for want of room
-  pub header-unfinished : (b ns : List ℕ) → told ns ≡ writingDirective k (length s) → b ≡ directiveMemory k s → (told ns ≡ finishing r start end (length s)) × (b ≡ finishedMemory r start end s)
-  unfolding finishing finishedMemory
-  header-unfinished b ns e q =
-      let d = refused-into (finishTests h (r .count) start end) (keeping h (r .count)) (length s) ns (e ∙ finish-into h (r .count) start end m own k p (length s)) in
-      (d, q ∙ sym (nothing-begun k s ns e .1) ∙ told-leaves ns _ _ s d)
+  pub not-header : (b ns : List ℕ) → told ns ≡ writingDirective k (length s) → b ≡ directiveMemory k s → (told ns ≡ finishing r start end (length s)) × (b ≡ finishedMemory r start end s)
+  unfolding finishing finishedMemory finishTests
+  not-header b ns e q =
+      refused-by-header (ownFinish (h .file) (r .count) start end) (h .file) (r .count) h k _ s b ns (kept h (r .count) start end m own k p) (own-passed (h .file) (r .count) start end m own) e q
 
   module _ (v : ℕ) (b : List ℕ) (e : accepted v ≡ writingDirective k (length s)) (q : b ≡ directiveMemory k s) where
     -- the NAK around the requests
     pub finished : (d : ℕ) (b₁ b₂ : List ℕ) → b₁ ≡ sets b (headerLength k) (scopeBytes k start end) → d ≡ dataEnd k → b₂ ≡ crcAdded (k .crc) d b₁
         → (accepted (record { header = k; length = v }) ≡ finishing r start end (length s)) × (b₂ ≡ finishedMemory r start end s)
-    unfolding finishedMemory finishing around
+    unfolding finishedMemory finishing finishTests around
     finished d b₁ b₂ q₁ pd e₂ =
         let n = r .count in
         let f : accepted (handed-back k) ≡ finishing r start end (length s) =
-        length-into (finishTests h n start end) (keeping h n) (length s) v k (e ∙ finish-into h n start end m own k p (length s)) (kept h n start end m own k p) in
+        length-into (directiveTests h ++ ownFinish (h .file) n start end) (keeping h n) (length s) v k (e ∙ begun-into (ownFinish (h .file) n start end) (h .file) n h k (length s) (kept h n start end m own k p) (own-passed (h .file) n start end m own)) (kept h n start end m own k p) in
         let z = to-write (h .file) h start end (2 * n) (length s) (handed-back k) (finish-writes r start end (length s) (handed-back k) f) in
         let before : areaStart k ≤ dataEnd k = omega (arith, area-before (h .file) h start end (2 * n) (length s) (handed-back k) z) in
         let a : b₂ ≡ around k start end s = stored-around k start end d s b₁ b₂ before (z .room-is) pd (begun-sets k start end v s b e q b₁ q₁) e₂ in (

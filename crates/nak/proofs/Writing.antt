@@ -109,6 +109,10 @@ module _ (file : LargeFileFlag) (start end count m : ℕ) (e : accepted m ≡ fi
   unfolding ownTests
   own-fits = rw own-pairs (ltb-false _ _ (own-passed .1 .1 .0))
 
+  pub own-scope : scopeFits file start end ≡ true
+  unfolding ownTests
+  own-scope = not-false _ (own-passed .1 .0)
+
 pub own-pass : (file : LargeFileFlag) (start end count : ℕ) → count % 2 ≡ 0 → scopeFits file start end ≡ true → count / 2 ≤ mostPairs file → Passed (ownTests file start end count)
 unfolding ownTests
 own-pass file start end count even scope few = (rw (eq-eqb _ _ even), (rw scope, (le-ltb _ _ few, tt)))
@@ -146,7 +150,7 @@ module _ (file : LargeFileFlag) (h : PduHeader) (start end count : ℕ) where
   refused-judged ns e = rw (append-nil (nakTests file h start end count)) at (refused-on ns (nakTests file h start end count) [] (headerLength h) (filled file (count / 2) h) e)
 
   module _ (n : ℕ) (e : accepted n ≡ firstOf (nakTests file h start end count) (headerLength h)) where
-    pub judged-passed : Passed (nakTests file h start end count)
+    judged-passed : Passed (nakTests file h start end count)
     judged-passed = passed (nakTests file h start end count) n (headerLength h) e .0
 
     pub judged-fits : count / 2 ≤ mostPairs file
@@ -158,13 +162,6 @@ module _ (file : LargeFileFlag) (h : PduHeader) (start end count : ℕ) where
     judged-filled = sym (all-passed (nakTests file h start end count) (filled file (count / 2) h) judged-passed)
 
 -- ---- room
-
-pub no-room : (h : PduHeader) (room p : ℕ) → p ≡ pduLength h → room < p → told (11 ∷ room ∷ p ∷ []) ≡ firstOf (noRoom room h ∷ []) (pduLength h)
-unfolding told
-no-room h room p e l = rw (← e, lt-ltb _ _ l)
-
-pub has-room : (h : PduHeader) (room p : ℕ) → p ≡ pduLength h → p ≤ room → accepted p ≡ firstOf (noRoom room h ∷ []) (pduLength h)
-has-room h room p e l = rw (← e, le-ltb _ _ l)
 
 -- a header that was filled in, and the length of its PDU
 abbrev pub handed-back : PduHeader → NakWritten
@@ -232,14 +229,25 @@ begun-into own file n h k room p good =
     ∙ ap (λ (ts : List Test). firstOf (ts ++ (noRoom room F ∷ [])) (pduLength F)) (with-directive TowardsSender file (dataLength file (h .crc) n) h)
     ∙ sym (passed-between (directiveTests h) own (noRoom room F ∷ []) (pduLength F) good)
 
--- and where one of its own refuses, the record's tests come first
-pub refused-into-first : {A : Type 0} (own : List Test) (x : A) (h k : PduHeader) (room : ℕ) (ns : List ℕ) → told ns ≡ firstOf own x
-    → andThen (judgingDirective h) (λ _. told ns) ≡ intoRoom (directiveTests h ++ own) k room
+-- refused by one of its own, or by the record's tests, which come first: no byte changes
+pub refused-by-tests : {A : Type 0} (own : List Test) (x : A) (h k : PduHeader) (bytes : NakWritten → List ℕ) (s ns : List ℕ) (o : Answer NakWritten) → told ns ≡ firstOf own x
+    → o ≡ andThen (judgingDirective h) (λ _. told ns)
+    → (o ≡ intoRoom (directiveTests h ++ own) k (length s)) × (s ≡ leaves (intoRoom (directiveTests h ++ own) k (length s)) bytes s)
 unfolding judgingDirective intoRoom
-refused-into-first own x h k room ns e =
-    let us = own ++ (noRoom room k ∷ []) in
-    refused-behind ns (directiveTests h) us room (headerLength h) (handed-back k) (refused-on ns own (noRoom room k ∷ []) x room e)
-    ∙ ap (λ (ts : List Test). firstOf ts (handed-back k)) (sym (append-assoc (directiveTests h) own (noRoom room k ∷ [])))
+refused-by-tests own x h k bytes s ns o e q =
+    let last = noRoom (length s) k ∷ [] in
+    let d = q
+    ∙ refused-behind ns (directiveTests h) (own ++ last) x (headerLength h) (handed-back k) (refused-on ns own last x x e)
+    ∙ ap (λ (ts : List Test). firstOf ts (handed-back k)) (sym (append-assoc (directiveTests h) own last)) in
+    (d, behind-leaves (firstOf (directiveTests h) (headerLength h)) ns bytes s ∙ ap (λ (w : Answer NakWritten). leaves w bytes s) (sym q ∙ d))
+
+-- refused by the header's writer: by the record's tests, or for want of room
+pub refused-by-header : (own : List Test) (file : LargeFileFlag) (n : ℕ) (h k : PduHeader) (bytes : NakWritten → List ℕ) (s b ns : List ℕ) → k ≡ filled file n h → Passed own
+    → told ns ≡ writingDirective k (length s) → b ≡ directiveMemory k s
+    → (told ns ≡ intoRoom (directiveTests h ++ own) (filled file n h) (length s)) × (b ≡ leaves (intoRoom (directiveTests h ++ own) (filled file n h) (length s)) bytes s)
+refused-by-header own file n h k bytes s b ns p good e q =
+    let d = refused-into (directiveTests h ++ own) (filled file n h) (length s) ns (e ∙ begun-into own file n h k (length s) p good) in
+    (d, q ∙ sym (nothing-begun k s ns e .1) ∙ told-leaves ns _ bytes s d)
 
 -- the two exits of that
 module _ (h : PduHeader) where
@@ -259,12 +267,6 @@ module _ (file : LargeFileFlag) (h : PduHeader) (start end count m room : ℕ) (
 
   begun-nak : (v : ℕ) → accepted v ≡ writingDirective k room → accepted (handed-back k) ≡ writingNak file h start end count room
   begun-nak v d = can-write file h start end count room v k (d ∙ nak-into) filled-in
-
-  -- the scope fits, and lies within the PDU
-  can-begin : (areaStart k ≤ pduLength k) × (scopeFits (k .file) start end ≡ true)
-  unfolding ownTests
-  can-begin =
-      (rw filled-in (filled-area file (count / 2) h), ap (λ (x : PduHeader). scopeFits (x .file) start end) filled-in ∙ ap (λ (f : LargeFileFlag). scopeFits f start end) (filled-flag file (count / 2) h) ∙ not-false _ (own-passed file start end count m e .1 .0))
 
 -- ---- what an accepted one has
 
@@ -315,8 +317,12 @@ module _ (h : PduHeader) (start end n : ℕ) (s b : List ℕ) (e : accepted n �
   begun-long : length b ≡ length s
   begun-long = ap length (begun-stored h s b n e q) ∙ length-sets s 0 (headerBytes h)
 
-  pub scope-room : areaStart h ≤ pduLength h → areaStart h ≤ length b
-  scope-room l = omega (arith, begun-room h (length s) n e, begun-long)
+  -- of a header that was filled in, the scope goes where it fits
+  pub scope-goes : (file : LargeFileFlag) (m : ℕ) (g : PduHeader) → h ≡ filled file m g → scopeFits file start end ≡ true → (areaStart h ≤ length b) × (scopeFits (h .file) start end ≡ true)
+  scope-goes file m g p scope =
+      let l : areaStart h ≤ pduLength h = rw p (filled-area file m g) in
+      let flag : h .file ≡ file = ap (λ (x : PduHeader). x .file) p ∙ filled-flag file m g in
+      (omega (arith, begun-room h (length s) n e, begun-long), ap (λ (f : LargeFileFlag). scopeFits f start end) flag ∙ scope)
 
   -- header, directive and scope, one behind the other
   pub begun-sets : (b₁ : List ℕ) → b₁ ≡ sets b (headerLength h) (scopeBytes h start end) → b₁ ≡ sets s 0 (startBytes h start end)
@@ -482,40 +488,22 @@ stored-around k start end n s b₁ b₂ before room pn e₁ e₂ =
 
 -- ---- an accepted write, from what its calls left in the buffer
 
-nothing-written : (file : LargeFileFlag) (h : PduHeader) (start end : ℕ) (numbers s ns : List ℕ)
-    → told ns ≡ lengthInto (nakTests file h start end (length numbers)) (filled file (length numbers / 2) h) (length s)
-    → (told ns ≡ writingNak file h start end (length numbers) (length s)) × (s ≡ nakMemory file h start end numbers s)
-unfolding nakMemory writingNak
-nothing-written file h start end numbers s ns e =
-    let d = refused-into (nakTests file h start end (length numbers)) (filled file (length numbers / 2) h) (length s) ns e in
-    (d, told-leaves ns _ _ s d)
-
--- refused by one of the NAK's own tests, or by the record's, which come first
-pub refused-by-own : (file : LargeFileFlag) (h : PduHeader) (start end : ℕ) (numbers s ns : List ℕ) (o : Answer NakWritten)
+pub not-own : (file : LargeFileFlag) (h : PduHeader) (start end : ℕ) (numbers s ns : List ℕ) (o : Answer NakWritten)
     → told ns ≡ firstOf (ownTests file start end (length numbers)) (length numbers / 2) → o ≡ andThen (judgingDirective h) (λ _. told ns)
     → (o ≡ writingNak file h start end (length numbers) (length s)) × (s ≡ nakMemory file h start end numbers s)
 unfolding nakMemory writingNak nakTests
-refused-by-own file h start end numbers s ns o e q =
-    let d = q ∙ refused-into-first (ownTests file start end (length numbers)) _ h (filled file (length numbers / 2) h) (length s) ns e in
-    (d, behind-leaves (judgingDirective h) ns _ s ∙ ap (λ (x : Answer NakWritten). leaves x (λ (w : NakWritten). nakBytes (w .header) start end numbers) s) (sym q ∙ d))
+not-own file h start end numbers s ns o e q = refused-by-tests (ownTests file start end (length numbers)) _ h _ _ s ns o e q
 
 module _ (file : LargeFileFlag) (h : PduHeader) (start end m : ℕ) (numbers s : List ℕ) (own : accepted m ≡ firstOf (ownTests file start end (length numbers)) (length numbers / 2))
     (k : PduHeader) (p : k ≡ filled file m h) where
-  -- refused by the record's tests, or for want of room
-  pub refused-by-header : (b ns : List ℕ) → told ns ≡ writingDirective k (length s) → b ≡ directiveMemory k s
+  pub not-header : (b ns : List ℕ) → told ns ≡ writingDirective k (length s) → b ≡ directiveMemory k s
       → (told ns ≡ writingNak file h start end (length numbers) (length s)) × (b ≡ nakMemory file h start end numbers s)
-  refused-by-header b ns e q =
-      let r = nothing-written file h start end numbers s ns (e ∙ nak-into file h start end (length numbers) m (length s) own k p) in
-      (r .0, q ∙ sym (nothing-begun k s ns e .1) ∙ r .1)
+  unfolding nakMemory writingNak nakTests
+  not-header b ns e q =
+      refused-by-header (ownTests file start end (length numbers)) file (length numbers / 2) h k _ s b ns (filled-in file h start end (length numbers) m (length s) own k p) (own-passed file start end (length numbers) m own) e q
 
   -- header, scope, numbers and checksum, one behind the other
   module _ (v : ℕ) (b : List ℕ) (e : accepted v ≡ writingDirective k (length s)) (q : b ≡ directiveMemory k s) where
-    can : (areaStart k ≤ pduLength k) × (scopeFits (k .file) start end ≡ true)
-    can = can-begin file h start end (length numbers) m (length s) own k p
-
-    pub scope-goes : (areaStart k ≤ length b) × (scopeFits (k .file) start end ≡ true)
-    scope-goes = (scope-room k start end v s b e q (can .0), can .1)
-
     whole : accepted (handed-back k) ≡ writingNak file h start end (length numbers) (length s)
     whole = begun-nak file h start end (length numbers) m (length s) own k p v e
 

@@ -3,7 +3,7 @@
 use mathlib.Core.Path.{sym, ap, _∙_}
 use native.Mathlib.Omega.{arith}
 use Rattle.header.specs.Answers.{lengthAnswer}
-use Rattle.header.proofs.Directives.{passed-directive, refused-room, short-of-pdu, holds-pdu}
+use Rattle.header.proofs.Directives.{passed-directive, refused-room, no-room, has-room, room-decides}
 use borrow.Author.Needs.{needs}
 use Rattle.header.proofs.directive.writable.Statement.{statement}
 use Rattle.header.proofs.directive.writable.Tie as tie
@@ -24,13 +24,18 @@ no-room-requires : tie.Need-no-room-requires
 no-room-requires c κs = search needs
 
 returns : tie.Need-returns
-returns c = ap lengthAnswer (c .no-room .ensures) ∙ short-of-pdu _ (passed-directive _ _ (ap lengthAnswer (sym (c .before .before .before .enum-told .given .1)) ∙ c .before .before .before .before .before .judged-directive .ensures)) _ _ (c .before .before .pdu-len .ensures .0) (omega arith)
+returns c =
+    ap lengthAnswer (c .no-room .ensures)
+    ∙ no-room _ _ _ (c .before .before .pdu-len .ensures .0) (omega arith)
+    ∙ room-decides _ _ (passed-directive _ _ (ap lengthAnswer (sym (c .before .before .before .enum-told .given .1)) ∙ c .before .before .before .before .before .judged-directive .ensures))
 
 returns-2 : tie.Need-returns-2
 returns-2 c = refused-room _ _ _ (ap lengthAnswer (sym (c .before .judged .given .1)) ∙ c .before .before .before .judged-directive .ensures)
 
 returns-3 : tie.Need-returns-3
-returns-3 c = holds-pdu _ (passed-directive _ _ (ap lengthAnswer (sym (c .before .before .enum-told .given .1)) ∙ c .before .before .before .before .judged-directive .ensures)) _ _ (c .before .pdu-len .ensures .0) (omega arith)
+returns-3 c =
+    has-room _ _ _ (c .before .pdu-len .ensures .0) (omega arith)
+    ∙ room-decides _ _ (passed-directive _ _ (ap lengthAnswer (sym (c .before .before .enum-told .given .1)) ∙ c .before .before .before .before .judged-directive .ensures))
 
 pub writable-spec : {M : Type 1} → statement M
 writable-spec =

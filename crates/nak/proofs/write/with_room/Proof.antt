@@ -1,6 +1,6 @@
 -- `nak::write::with_room` meets its contract: the whole PDU fits, or it does not.
 -- Assumes nothing.
-use Rattle.nak.proofs.Writing.{no-room, has-room}
+use Rattle.header.proofs.Directives.{no-room, has-room}
 use borrow.Author.Needs.{needs}
 use Rattle.nak.proofs.write.with_room.Statement.{statement}
 use Rattle.nak.proofs.write.with_room.Tie as tie

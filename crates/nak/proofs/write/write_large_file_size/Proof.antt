@@ -2,7 +2,7 @@
 -- Assumes nothing.
 use mathlib.Core.Path.{refl, sym, ap, _∙_}
 use Rattle.header.specs.Answers.{lengthAnswer}
-use Rattle.nak.proofs.Writing.{own-fits, refused-by-own, refused-by-header, scope-goes, numbers-go, nak-written}
+use Rattle.nak.proofs.Writing.{own-fits, own-scope, scope-goes, not-own, not-header, numbers-go, nak-written}
 use borrow.Author.Needs.{needs}
 use Rattle.nak.proofs.write.write_large_file_size.Statement.{statement}
 use Rattle.nak.proofs.write.write_large_file_size.Tie as tie
@@ -32,7 +32,7 @@ enum-known-begun-2 : tie.Need-enum-known-begun-2
 enum-known-begun-2 c = search needs
 
 put-scope-requires : tie.Need-put-scope-requires
-put-scope-requires c κs = scope-goes _ _ _ _ _ (c .before .before .before .before .before .before .before .before .before .before .before .before .before .before .before .args .numbers .now) _ (ap lengthAnswer (sym (c .before .before .before .before .before .before .before .before .before .before .judged2 .given .1)) ∙ c .before .before .before .before .before .before .before .before .before .before .before .before .judge-own .ensures) _ (c .before .before .before .before .before .before .before .before .fill .ensures) _ _ (ap lengthAnswer (sym (c .before .before .begun2 .given .1)) ∙ c .before .before .before .before .before .before .write-directive-header .ensures .0) (c .before .before .before .before .before .before .write-directive-header .ensures .1)
+put-scope-requires c κs = scope-goes _ _ _ _ _ _ (ap lengthAnswer (sym (c .before .before .begun2 .given .1)) ∙ c .before .before .before .before .before .before .write-directive-header .ensures .0) (c .before .before .before .before .before .before .write-directive-header .ensures .1) _ _ _ (c .before .before .before .before .before .before .before .before .fill .ensures) (own-scope _ _ _ _ _ (ap lengthAnswer (sym (c .before .before .before .before .before .before .before .before .before .before .judged2 .given .1)) ∙ c .before .before .before .before .before .before .before .before .before .before .before .before .judge-own .ensures))
 
 area-start-requires : tie.Need-area-start-requires
 area-start-requires c κs = search needs
@@ -47,13 +47,13 @@ add-pdu-crc-requires : tie.Need-add-pdu-crc-requires
 add-pdu-crc-requires c κs = search needs
 
 returns : tie.Need-returns
-returns c = refused-by-own _ _ _ _ _ _ _ _ (ap lengthAnswer (sym (c .before .before .judged .given .1)) ∙ c .before .before .before .before .judge-own .ensures) (c .behind-record .ensures)
+returns c = not-own _ _ _ _ _ _ _ _ (ap lengthAnswer (sym (c .before .before .judged .given .1)) ∙ c .before .before .before .before .judge-own .ensures) (c .behind-record .ensures)
 
 same-length : tie.Need-same-length
 same-length c = search needs
 
 returns-2 : tie.Need-returns-2
-returns-2 c = refused-by-header _ _ _ _ _ _ _ (ap lengthAnswer (sym (c .before .before .before .before .before .before .before .before .before .judged2 .given .1)) ∙ c .before .before .before .before .before .before .before .before .before .before .before .judge-own .ensures) _ (c .before .before .before .before .before .before .before .fill .ensures) _ _ (ap lengthAnswer (sym (c .before .begun .given .1)) ∙ c .before .before .before .before .before .write-directive-header .ensures .0) (c .before .before .before .before .before .write-directive-header .ensures .1)
+returns-2 c = not-header _ _ _ _ _ _ _ (ap lengthAnswer (sym (c .before .before .before .before .before .before .before .before .before .judged2 .given .1)) ∙ c .before .before .before .before .before .before .before .before .before .before .before .judge-own .ensures) _ (c .before .before .before .before .before .before .before .fill .ensures) _ _ (ap lengthAnswer (sym (c .before .begun .given .1)) ∙ c .before .before .before .before .before .write-directive-header .ensures .0) (c .before .before .before .before .before .write-directive-header .ensures .1)
 
 same-length-2 : tie.Need-same-length-2
 same-length-2 c = search needs

@@ -2,7 +2,8 @@
 -- Assumes nothing.
 use mathlib.Core.Path.{sym, ap, _∙_}
 use Rattle.header.specs.Answers.{lengthAnswer}
-use Rattle.nak.proofs.Reserving.{finish-fits, own-unfinished, header-unfinished, scope-goes, finished}
+use Rattle.nak.proofs.Writing.{scope-goes}
+use Rattle.nak.proofs.Reserving.{finish-fits, finish-scope, not-own, not-header, finished}
 use borrow.Author.Needs.{needs}
 use Rattle.nak.proofs.reserve.ReservedNak.finish.Statement.{statement}
 use Rattle.nak.proofs.reserve.ReservedNak.finish.Tie as tie
@@ -32,7 +33,7 @@ enum-known-begun-2 : tie.Need-enum-known-begun-2
 enum-known-begun-2 c = search needs
 
 put-scope-requires : tie.Need-put-scope-requires
-put-scope-requires c κs = scope-goes _ _ _ _ _ (ap lengthAnswer (sym (c .before .before .before .before .before .before .before .before .before .before .judged2 .given .1)) ∙ c .before .before .before .before .before .before .before .before .before .before .before .before .judge-finish .ensures) _ (c .before .before .before .before .before .before .before .before .keep .ensures) _ _ _ (ap lengthAnswer (sym (c .before .before .begun2 .given .1)) ∙ c .before .before .before .before .before .before .write-directive-header .ensures .0) (c .before .before .before .before .before .before .write-directive-header .ensures .1)
+put-scope-requires c κs = scope-goes _ _ _ _ _ _ (ap lengthAnswer (sym (c .before .before .begun2 .given .1)) ∙ c .before .before .before .before .before .before .write-directive-header .ensures .0) (c .before .before .before .before .before .before .write-directive-header .ensures .1) _ _ _ (c .before .before .before .before .before .before .before .before .keep .ensures) (finish-scope _ _ _ _ _ (ap lengthAnswer (sym (c .before .before .before .before .before .before .before .before .before .before .judged2 .given .1)) ∙ c .before .before .before .before .before .before .before .before .before .before .before .before .judge-finish .ensures))
 
 data-end-requires : tie.Need-data-end-requires
 data-end-requires c κs = search needs
@@ -41,13 +42,13 @@ add-pdu-crc-requires : tie.Need-add-pdu-crc-requires
 add-pdu-crc-requires c κs = search needs
 
 returns : tie.Need-returns
-returns c = own-unfinished _ _ _ _ _ _ (ap lengthAnswer (sym (c .before .before .judged .given .1)) ∙ c .before .before .before .before .judge-finish .ensures) (c .behind-record .ensures)
+returns c = not-own _ _ _ _ _ _ (ap lengthAnswer (sym (c .before .before .judged .given .1)) ∙ c .before .before .before .before .judge-finish .ensures) (c .behind-record .ensures)
 
 same-length : tie.Need-same-length
 same-length c = search needs
 
 returns-2 : tie.Need-returns-2
-returns-2 c = header-unfinished _ _ _ _ _ (ap lengthAnswer (sym (c .before .before .before .before .before .before .before .before .before .judged2 .given .1)) ∙ c .before .before .before .before .before .before .before .before .before .before .before .judge-finish .ensures) _ (c .before .before .before .before .before .before .before .keep .ensures) _ _ (ap lengthAnswer (sym (c .before .begun .given .1)) ∙ c .before .before .before .before .before .write-directive-header .ensures .0) (c .before .before .before .before .before .write-directive-header .ensures .1)
+returns-2 c = not-header _ _ _ _ _ (ap lengthAnswer (sym (c .before .before .before .before .before .before .before .before .before .judged2 .given .1)) ∙ c .before .before .before .before .before .before .before .before .before .before .before .judge-finish .ensures) _ (c .before .before .before .before .before .before .before .keep .ensures) _ _ (ap lengthAnswer (sym (c .before .begun .given .1)) ∙ c .before .before .before .before .before .write-directive-header .ensures .0) (c .before .before .before .before .before .write-directive-header .ensures .1)
 
 same-length-2 : tie.Need-same-length-2
 same-length-2 c = search needs
