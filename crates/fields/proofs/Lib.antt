@@ -1,12 +1,9 @@
 -- Laws of the definitions, which upper crates cite too. The proof of a function stands in the folder of its name.
 pub mod Xor
-pub mod Computed
-pub mod Linear
 pub mod Checksum
 pub mod Table
 pub mod BigEndian
 pub mod Parts
-pub mod Words
 pub mod Width
 pub mod OneToOne
 pub mod Judging

@@ -1,11 +1,10 @@
 -- Laws of the exclusive or that the library lacks: it is associative, and goes by bytes.
 -- Assumes nothing.
 use mathlib.Core.Path.{_≡_, refl, sym, ap, ap₂, _∙_}
-use Prim.Native.Nat.{ℕ, zero, suc, _+_, _*_, _/_, _%_, _^_, _<_}
+use Prim.Native.Nat.{ℕ, zero, suc, _+_, _*_, _/_, _%_, _<_}
 use native.Mathlib.Nat.{add-zero}
 use native.Mathlib.Omega.{arith}
 use lib.Arith.{bin-ind, digits-mod}
-use lib.Pow.{pow-pos}
 use lib.Bits.{bitXor, differ, xor-step, xor-comm, xor-zero-r, xor-block, xor-shr}
 
 differ-lt : (x y : ℕ) → x < 2 → y < 2 → differ x y < 2
@@ -27,7 +26,7 @@ differ-assoc (suc (suc x)) y z h k l = absurd (omega arith)
 xor-half : (a b : ℕ) → bitXor a b / 2 ≡ bitXor (a / 2) (b / 2)
 xor-half a b = xor-shr a b 1
 
-pub xor-odd : (a b : ℕ) → bitXor a b % 2 ≡ differ (a % 2) (b % 2)
+xor-odd : (a b : ℕ) → bitXor a b % 2 ≡ differ (a % 2) (b % 2)
 xor-odd a b =
     ap (λ (n : ℕ). n % 2) (xor-step a b) ∙ digits-mod (bitXor (a / 2) (b / 2)) (differ-lt (a % 2) (b % 2) (omega arith) (omega arith))
 
@@ -43,13 +42,11 @@ xor-assoc a =
     ∙ ap (λ (x : ℕ). differ (n % 2) x) (sym (xor-odd b c)))
     ∙ sym (xor-step n (bitXor b c))) a
 
--- four numbers, two by two, either way
-pub xor-interchange : (a b c d : ℕ) → bitXor (bitXor a b) (bitXor c d) ≡ bitXor (bitXor a c) (bitXor b d)
-xor-interchange a b c d =
-    xor-assoc a b (bitXor c d) ∙ ap (bitXor a) (sym (xor-assoc b c d) ∙ ap (λ (x : ℕ). bitXor x d) (xor-comm b c) ∙ xor-assoc c b d) ∙ sym (xor-assoc a c (bitXor b d))
+pub xor-right-comm : (a b c : ℕ) → bitXor (bitXor a b) c ≡ bitXor (bitXor a c) b
+xor-right-comm a b c = xor-assoc a b c ∙ ap (bitXor a) (xor-comm b c) ∙ sym (xor-assoc a c b)
 
-pub xor-up : (a b k : ℕ) → bitXor (a * 2 ^ k) (b * 2 ^ k) ≡ bitXor a b * 2 ^ k
-xor-up a b k = simp (add-zero) at (xor-block k a b 0 0 (pow-pos k) (pow-pos k))
+pub xor-double : (a b : ℕ) → bitXor (a * 2) (b * 2) ≡ bitXor a b * 2
+xor-double a b = simp (add-zero) at (xor-block 1 a b 0 0 (omega arith) (omega arith))
 
 -- a number that has nothing in its lower byte leaves the other's as it is
 pub xor-upper : (a b l : ℕ) → l < 256 → bitXor (a * 256 + l) (b * 256) ≡ bitXor a b * 256 + l

@@ -1,17 +1,11 @@
-// The checksum of a PDU, a byte at a time by a table of remainders, and for few bytes worked out, eight at a time (the Rust's `crc.rs`:
-// CRC-16/IBM-3740; the standard's section 4.1).
+// The checksum of a PDU, a byte at a time by a table of remainders (the Rust's `crc.rs`: CRC-16/IBM-3740; the standard's section 4.1).
 ghost use mathlib.Core.Path.{_≡_};
-ghost use Prim.Native.Nat.{_/_, _%_, _<_};
+ghost use Prim.Native.Nat.{_<_};
 ghost use lib.Bits.{bitXor};
-ghost use Rattle.fields.specs.BigEndian.{beBytes};
-ghost use Rattle.fields.specs.Checksum.{entries, checksumFrom, checksumOf};
-use crate::be;
+ghost use Rattle.fields.specs.Checksum.{entries, checksumOf};
 
 // The register before the first byte.
 const START: usize = 0xFFFF;
-
-// Below so many bytes the checksum is worked out: for a look-up all of the table is copied first.
-const TABLE_FROM: usize = 64;
 
 // The 256 entries of the table: entry i is the remainder that eight single-bit steps give for i in the upper byte.
 pub fn table() -> [u16; 256]
@@ -28,41 +22,9 @@ fn index(upper: usize, byte: u8) -> usize
     upper ^ byte as usize
 }
 
-// What the eight bytes of q leave of a register of zeros: the remainder of q times x^16. The top four bits of q are its quotient's by the
-// generator, and each line makes twice as many right; then so many times the generator are taken off.
-fn remainder(q: u64) -> u64
-    ensures { λ r. ⌜ r ≡ checksumFrom 0 (beBytes 8 q) ⌝ }
-{
-    let top8 = q ^ (q >> 4) ^ (q >> 11) ^ (q >> 16);
-    let top16 = top8 ^ (top8 >> 8) ^ (top8 >> 22) ^ (top8 >> 32);
-    let top32 = top16 ^ (top16 >> 16) ^ (top16 >> 44);
-    let quotient = top32 ^ (top32 >> 32);
-    (quotient ^ (quotient << 5) ^ (quotient << 12)) % 65536
-}
-
-// The checksum of all bytes of `s`, worked out: eight at a time, with the register before them in the first two, and the last few one at
-// a time.
-fn worked_out(s: &[u8]) -> u16
-    ensures { λ r. ⌜ r ≡ checksumOf (now (s .entry)) ⌝ }
-{
-    let mut register = START as u64;
-    let mut i = 0;
-    while 8 <= s.len() - i {
-        let word = be::read_be(&s[i..i + 8], 0, 8);
-        register = remainder((register << 48) ^ word);
-        i += 8;
-    }
-    while i < s.len() {
-        let upper = (register / 256) ^ s[i] as u64;
-        register = remainder(upper) ^ (register % 256 * 256);
-        i += 1;
-    }
-    register as u16
-}
-
-// The same by the table, a byte at a time. The register goes as its two bytes, each as wide as an index: from an entry to the next index
+// The checksum of all bytes of `s`. The register goes as its two bytes, each as wide as an index: from an entry to the next index
 // it is then one shift and one exclusive or.
-fn by_table(s: &[u8]) -> u16
+pub fn checksum(s: &[u8]) -> u16
     ensures { λ r. ⌜ r ≡ checksumOf (now (s .entry)) ⌝ }
 {
     let entries = table();
@@ -76,16 +38,6 @@ fn by_table(s: &[u8]) -> u16
         i += 1;
     }
     (upper * 256 + lower) as u16
-}
-
-// The checksum of all bytes of `s`.
-pub fn checksum(s: &[u8]) -> u16
-    ensures { λ r. ⌜ r ≡ checksumOf (now (s .entry)) ⌝ }
-{
-    if s.len() < TABLE_FROM {
-        return worked_out(s);
-    }
-    by_table(s)
 }
 
 const TABLE: [u16; 256] = [

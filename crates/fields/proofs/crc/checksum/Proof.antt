@@ -1,18 +1,19 @@
--- `fields::crc::by_table` meets its contract. The loop's invariant is `Register`.
+-- `fields::crc::checksum` meets its contract. The loop's invariant: the register, which is the two bytes, and the bytes that are left give the checksum of the whole.
 -- Assumes nothing.
-use mathlib.Core.Path.{refl, sym, ap, _∙_}
-use Prim.Native.Nat.{_+_, _-_, _*_, _<_}
+use mathlib.Core.Path.{_≡_, refl, sym, ap, _∙_}
+use Prim.Native.Nat.{_+_, _*_, _≤_, _<_, _-_}
 use native.Mathlib.Omega.{arith}
 use borrow.Author.Needs.{needs}
-use lib.ListN.{length}
-use Rattle.fields.specs.Checksum.{checksumOf, entry}
-use Rattle.fields.proofs.Checksum.{Register, checksum-done}
+use lib.ListN.{length, drop}
+use Rattle.fields.specs.Checksum.{checksumFrom, checksumOf, entry}
+use Rattle.fields.proofs.Checksum.{checksum-done}
 use Rattle.fields.proofs.Table.{entries-at, entries-lt, upper-lt, table-turn}
-use Rattle.fields.proofs.crc.by_table.Statement.{statement}
-use Rattle.fields.proofs.crc.by_table.Tie as tie
+use Rattle.fields.proofs.crc.checksum.Statement.{statement}
+use Rattle.fields.proofs.crc.checksum.Tie as tie
 
 abbrev Inv-loop : tie.InvT-loop
-Inv-loop s entries upper₀ lower₀ i₀ upper lower i = (lower < 256) × Register s (upper * 256 + lower) i
+Inv-loop s entries upper₀ lower₀ i₀ upper lower i =
+    (i ≤ length s) × (upper < 256) × (lower < 256) × (checksumFrom (upper * 256 + lower) (drop i s) ≡ checksumOf s)
 
 abbrev μ-loop : tie.MeasureT-loop
 μ-loop s entries upper₀ lower₀ i₀ upper lower i = length s - i
@@ -22,7 +23,7 @@ table-requires c κs = search needs
 
 loop-holds : tie.Need-loop-holds Inv-loop μ-loop
 unfolding checksumOf
-loop-holds c = (search needs, (search needs, search needs, refl))
+loop-holds c = (search needs, search needs, search needs, refl)
 
 shared-slice-read-index : tie.Need-shared-slice-read-index Inv-loop μ-loop
 shared-slice-read-index c = search needs
@@ -50,12 +51,10 @@ loop-again c =
     let l = c .before .before .before .loop in
     let p = c .before .before .before .before .table .ensures in
     let k = c .index .ensures in (
+      search needs,
+      upper-lt _ (l .lower) (entries-lt _ _ p (k .1)) (l .inv .2),
       omega arith,
-      (
-        search needs,
-        omega (arith, upper-lt _ (l .lower) (entries-lt _ _ p (k .1)) (l .inv .0)),
-        table-turn (l .upper) (l .lower) _ (l .i) _ (l .inv .0) (search needs) (entries-at _ _ p (k .1) ∙ ap entry (k .0)) ∙ l .inv .1 .2,
-      ),
+      table-turn (l .upper) (l .lower) _ (l .i) _ (l .inv .2) (search needs) (entries-at _ _ p (k .1) ∙ ap entry (k .0)) ∙ l .inv .3,
     )
 
 mul-result : tie.Need-mul-result Inv-loop μ-loop
@@ -68,10 +67,10 @@ cast-result : tie.Need-cast-result Inv-loop μ-loop
 cast-result c = search needs
 
 returns : tie.Need-returns Inv-loop μ-loop
-returns c = sym (checksum-done _ _ _ (c .loop-test .left)) ∙ c .before .loop .inv .1 .2
+returns c = sym (checksum-done _ _ _ (c .loop-test .left)) ∙ c .before .loop .inv .3
 
-pub by-table-spec : {M : Type 1} → statement M
-by-table-spec =
+pub checksum-spec : {M : Type 1} → statement M
+checksum-spec =
     tie.close
     (tie.spec
     Inv-loop
