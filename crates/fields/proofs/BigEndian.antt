@@ -11,7 +11,7 @@ use native.Mathlib.Omega.{arith}
 use lib.Arith.{digits-lt, lt-one}
 use lib.Dec.{leb}
 use lib.ListN.{length, take, drop, set, getD, length-append, length-take, length-drop, length-set, take-append-drop}
-use lib.Seq.{drop-cons, append-snoc, take-set-le, drop-set-lt, getD-set-same, take-at, drop-at, take-take, drop-drop, getD-drop, sets, sets-eq}
+use lib.Seq.{drop-cons, append-snoc, take-set-le, drop-set-lt, getD-set-same, take-at, drop-at, take-take, drop-drop, getD-drop, sets, sets-eq, length-sets}
 use borrow.Author.Tests.{le-leb, lt-leb, leb-true}
 use Rattle.fields.specs.Choice.{if_then_else_}
 use Rattle.fields.specs.Width.{fitsWidth}
@@ -286,7 +286,15 @@ unfolding numberAt
 number-back pre post n w v e h =
     rw (drop-at pre (beBytes w v ++ post) n e, take-at (beBytes w v) post w (be-length w v)) (be-value-bytes w v h)
 
-part-take : (s : List ℕ) (n at w : ℕ) → at + w ≤ n → take w (drop at (take n s)) ≡ take w (drop at s)
+-- and so does a byte, as the element that it is
+pub byte-back : (pre post : List ℕ) (n v : ℕ) → length pre ≡ n → v < 256 → getD (pre ++ (beBytes 1 v ++ post)) n 0 ≡ v
+byte-back pre post n v e h =
+    ap (λ (i : ℕ). getD (pre ++ (beBytes 1 v ++ post)) i 0) (sym (add-zero n))
+    ∙ sym (getD-drop n (pre ++ (beBytes 1 v ++ post)) 0 0)
+    ∙ ap (λ (l : List ℕ). getD l 0 0) (drop-at pre (beBytes 1 v ++ post) n e ∙ ap (λ (l : List ℕ). l ++ post) (one-byte v h))
+
+-- a part of the first n bytes is that part of all of them
+pub part-take : (s : List ℕ) (n at w : ℕ) → at + w ≤ n → take w (drop at (take n s)) ≡ take w (drop at s)
 part-take s n zero w h = take-take w n s (omega arith)
 part-take s zero (suc at) w h = absurd (omega arith)
 part-take [] (suc n) (suc at) w h = refl
@@ -322,3 +330,9 @@ sets-append (x ∷ xs) ys l at =
 pub then-sets : (pre xs l : List ℕ) (n : ℕ) {b b′ : List ℕ} → length pre ≡ n → b ≡ sets l 0 pre → b′ ≡ sets b n xs → b′ ≡ sets l 0 (pre ++ xs)
 then-sets pre xs l n {b} {b′} e p q =
     q ∙ ap₂ (λ (x : List ℕ) (j : ℕ). sets x j xs) p (sym e ∙ sym (zero-add (length pre))) ∙ sym (sets-append pre xs l 0)
+
+-- a number behind bytes that were stored: both are stored
+pub put-behind : (s pre : List ℕ) (at n w v : ℕ) {b b′ : List ℕ} → at + length pre ≡ n → w ≤ 8 → n + w ≤ length s → v < 256 ^ w → b ≡ sets s at pre → b′ ≡ bePut b n w v → b′ ≡ sets s at (pre ++ beBytes w v)
+put-behind s pre at n w v {b} p small room f e q =
+    let l : length b ≡ length s = ap length e ∙ length-sets s at pre in
+    q ∙ put-sets b n w v small (omega arith) f ∙ ap₂ (λ (x : List ℕ) (j : ℕ). sets x j (beBytes w v)) e (sym p) ∙ sym (sets-append pre (beBytes w v) s at)

@@ -1,12 +1,15 @@
--- Laws of judgements: what is accepted passed every test, and a refusal is handed on as it is.
+-- Laws of judgements: what is accepted passed every test, a refusal is handed on as it is, and what each leaves in a lent buffer.
 -- Assumes nothing.
-use Prim.Native.Nat.{ℕ}
-use mathlib.Core.Path.{_≡_, refl, ap, ap₂}
+use Prim.Native.Nat.{ℕ, _+_, _≤_}
+use mathlib.Core.Path.{_≡_, refl, sym, ap, ap₂, _∙_}
 use mathlib.Core.Bool.{Bool, true, false}
 use mathlib.Core.List.{List, [], _∷_, _++_, append-nil}
+use native.Mathlib.Nat.{zero-add}
 use native.Mathlib.Omega.{arith}
 use lib.Dec.{eqb}
-use lib.ListN.{getD}
+use lib.ListN.{length, getD, drop}
+use lib.Seq.{sets, sets-eq}
+use borrow.Author.Tests.{eqb-true}
 use Rattle.fields.specs.Choice.{if_then_else_}
 use Rattle.fields.specs.Answer.{Answer, accepted, short, refused, told, andThen, Test, firstOf, leaves}
 
@@ -76,6 +79,29 @@ said-behind {A} n ms (t ∷ ts) us a q e = go (t .holds) refl e (λ d. said-behi
         absurd (q .0 (ap (λ (ns : List ℕ). getD ns 0 0) h))
     go false p d rest = let r = rest d in ((p, r .0), r .1)
 
+-- ---- refusals
+
+-- refusal 1 is `short`, and every other one is `refused`
+pub told-is-short : {A : Type 0} (l n : ℕ) → _≡_ {A = Answer A} (told (1 ∷ l ∷ n ∷ [])) (short l n)
+unfolding told
+told-is-short l n = refl
+
+pub told-is-refused : {A : Type 0} (n : ℕ) (ms : List ℕ) → eqb n 1 ≡ false → _≡_ {A = Answer A} (told (n ∷ ms)) (refused (n ∷ ms))
+unfolding told
+told-is-refused n ms e = rw e
+
+-- what is so of both is so of a refusal
+pub told-cases : {A X : Type 0} (f : Answer A → X) (x : X) (ns : List ℕ) → (getD ns 0 0 ≡ 1 → f (short (getD ns 1 0) (getD ns 2 0)) ≡ x) → f (refused ns) ≡ x → f (told ns) ≡ x
+unfolding told
+told-cases f x ns p q = go (eqb (getD ns 0 0) 1) refl
+  where
+    go : (c : Bool) → eqb (getD ns 0 0) 1 ≡ c → f (if c then short (getD ns 1 0) (getD ns 2 0) else refused ns) ≡ x
+    go true e = p (eqb-true _ _ e)
+    go false e = q
+
+pub told-either : {A X : Type 0} (f : Answer A → X) (x : X) (ns : List ℕ) → ((l n : ℕ) → f (short l n) ≡ x) → ((ms : List ℕ) → f (refused ms) ≡ x) → f (told ns) ≡ x
+told-either f x ns p q = told-cases f x ns (λ _. p (getD ns 1 0) (getD ns 2 0)) (q ns)
+
 -- no refusal is an acceptance
 module _ {A : Type 0} (ns : List ℕ) where
   pub told-no : (a : A) → told ns ≡ accepted a → ⊥
@@ -138,14 +164,42 @@ refused-behind {A} {B} {C} ns (t ∷ ts) us a b c e = go (t .holds) (refused-beh
     go true r = refl
     go false r = r
 
+-- ---- one answer behind another
+
+module _ {A B : Type 0} (o : Answer A) (f : A → Answer B) where
+  -- what the first refuses is refused, and behind what it accepts the second decides
+  pub refused-then : (ns : List ℕ) → told ns ≡ o → told ns ≡ andThen o f
+  refused-then ns e = sym (told-on ns f) ∙ ap (λ (x : Answer A). andThen x f) e
+
+  pub accepted-then : (a : A) → accepted a ≡ o → f a ≡ andThen o f
+  accepted-then a e = ap (λ (x : Answer A). andThen x f) e
+
+-- what both accept was accepted by each
+pub record Went {A B : Type 0} (o : Answer A) (f : A → Answer B) (b : B) : Type 0 where
+  pub mid : A
+  pub first : accepted mid ≡ o
+  pub second : accepted b ≡ f mid
+
+pub went : {A B : Type 0} (o : Answer A) (f : A → Answer B) (b : B) → accepted b ≡ andThen o f → Went o f b
+went (accepted a) f b e = record { mid = a; first = refl; second = e }
+went (short l n) f b e = let z : _≡_ {A = ℕ} 0 1 = cc in absurd (let x : ⊥ = omega arith in x)
+went (refused ns) f b e = let z : _≡_ {A = ℕ} 0 1 = cc in absurd (let x : ⊥ = omega arith in x)
+
+-- tests behind tests are one list of tests
+pub then-tests : {A B : Type 0} (ts us : List Test) (a : A) (b : B) (f : A → Answer B) → f a ≡ firstOf us b → andThen (firstOf ts a) f ≡ firstOf (ts ++ us) b
+then-tests [] us a b f e = e
+then-tests {A} {B} (t ∷ ts) us a b f e = go (t .holds) (then-tests ts us a b f e)
+  where
+    go : (c : Bool) → andThen (firstOf ts a) f ≡ firstOf (ts ++ us) b → andThen (if c then refused (t .says) else firstOf ts a) f ≡ (if c then refused (t .says) else firstOf (ts ++ us) b)
+    go true r = refl
+    go false r = r
+
+-- ---- the buffer at exit
+
 -- a refused write changes no byte
 pub told-leaves : {A : Type 0} (ns : List ℕ) (o : Answer A) (bytes : A → List ℕ) (s : List ℕ) → told ns ≡ o → s ≡ leaves o bytes s
-unfolding told
-told-leaves {A} ns o bytes s e = go (eqb (getD ns 0 0) 1) e
-  where
-    go : (c : Bool) → _≡_ {A = Answer A} (if c then short (getD ns 1 0) (getD ns 2 0) else refused ns) o → s ≡ leaves o bytes s
-    go true d = ap (λ (a : Answer A). leaves a bytes s) d
-    go false d = ap (λ (a : Answer A). leaves a bytes s) d
+told-leaves {A} ns o bytes s e =
+    sym (told-either (λ (x : Answer A). leaves x bytes s) s ns (λ l n. refl) (λ ms. refl)) ∙ ap (λ (x : Answer A). leaves x bytes s) e
 
 -- nor does a refusal behind whatever comes first
 pub behind-leaves : {A B : Type 0} (o : Answer A) (ns : List ℕ) (bytes : B → List ℕ) (s : List ℕ) → s ≡ leaves (andThen o (λ _. told ns)) bytes s
@@ -153,11 +207,12 @@ behind-leaves (accepted a) ns bytes s = told-leaves ns (told ns) bytes s refl
 behind-leaves (short l n) ns bytes s = refl
 behind-leaves (refused ms) ns bytes s = refl
 
--- what is the same of every refusal
-pub told-either : {A X : Type 0} (f : Answer A → X) (x : X) (ns : List ℕ) → ((l n : ℕ) → f (short l n) ≡ x) → ((ms : List ℕ) → f (refused ms) ≡ x) → f (told ns) ≡ x
-unfolding told
-told-either {A} {X} f x ns p q = go (eqb (getD ns 0 0) 1)
-  where
-    go : (c : Bool) → f (if c then short (getD ns 1 0) (getD ns 2 0) else refused ns) ≡ x
-    go true = p (getD ns 1 0) (getD ns 2 0)
-    go false = q ns
+-- an accepted one has its bytes in front
+module _ {A : Type 0} (o : Answer A) (bytes : A → List ℕ) (s : List ℕ) (a : A) (e : accepted a ≡ o) where
+  pub accepted-leaves : bytes a ++ drop (length (bytes a)) s ≡ leaves o bytes s
+  accepted-leaves = ap (λ (x : Answer A). leaves x bytes s) e
+
+  pub sets-leaves : length (bytes a) ≤ length s → sets s 0 (bytes a) ≡ leaves o bytes s
+  sets-leaves l =
+      let k : 0 + length (bytes a) ≤ length s = omega arith in
+      sets-eq (bytes a) s 0 k ∙ ap (λ (n : ℕ). bytes a ++ drop n s) (zero-add (length (bytes a))) ∙ accepted-leaves

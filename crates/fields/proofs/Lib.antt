@@ -8,3 +8,4 @@ pub mod Width
 pub mod OneToOne
 pub mod Judging
 pub mod Staged
+pub mod Demand3

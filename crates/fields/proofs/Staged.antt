@@ -15,7 +15,7 @@ use borrow.Author.Tests.{ltb-true, ltb-false, lt-ltb, le-ltb}
 use Rattle.fields.specs.Choice.{if_then_else_}
 use Rattle.fields.specs.Answer.{Answer, accepted, short, refused, told, andThen, Test, firstOf}
 use Rattle.fields.specs.Staged.{Staged, accept, refuseIf, need, run, _>>=_, _>>_, tests}
-use Rattle.fields.proofs.Judging.{Passed, told-no, told-as, told-short, told-on}
+use Rattle.fields.proofs.Judging.{Passed, told-no, told-as, told-short, refused-then, accepted-then, went}
 use Rattle.fields.specs.Demand3.{Final, firsts, heard, Demand3, AtMost}
 
 pub run-bind : {A B : Type 0} (r : Staged A) (f : A → Staged B) (s : List ℕ) → run (r >>= f) s ≡ andThen (run r s) (λ a. run (f a) s)
@@ -30,10 +30,10 @@ run-bind (need n next) f s = go (ltb (length s) n) (run-bind (next (take n s)) f
 
 -- what the first of two readings refuses is refused, and behind what it accepts the second decides
 pub refused-bind : {A B : Type 0} (ns : List ℕ) (r : Staged A) (f : A → Staged B) (s : List ℕ) → told ns ≡ run r s → told ns ≡ run (r >>= f) s
-refused-bind {A} ns r f s e = sym (run-bind r f s ∙ ap (λ (o : Answer A). andThen o (λ a. run (f a) s)) (sym e) ∙ told-on ns (λ a. run (f a) s))
+refused-bind ns r f s e = refused-then (run r s) (λ a. run (f a) s) ns e ∙ sym (run-bind r f s)
 
 pub accepted-bind : {A B : Type 0} (r : Staged A) (f : A → Staged B) (s : List ℕ) (a : A) → accepted a ≡ run r s → run (f a) s ≡ run (r >>= f) s
-accepted-bind {A} r f s a e = sym (run-bind r f s ∙ ap (λ (o : Answer A). andThen o (λ a. run (f a) s)) (sym e))
+accepted-bind r f s a e = accepted-then (run r s) (λ x. run (f x) s) a e ∙ sym (run-bind r f s)
 
 -- a refusal stands before whatever is accepted at the end
 pub told-before : {A B : Type 0} (ns : List ℕ) (r : Staged A) (f : A → B) (s : List ℕ) → told ns ≡ run (r >>= λ a. accept (f a)) s → told ns ≡ run r s
@@ -61,6 +61,15 @@ pub tests-passed : {A : Type 0} (ts : List Test) (r : Staged A) (s : List ℕ) �
 tests-passed [] r s p = refl
 tests-passed (t ∷ ts) r s p = rw (p .0) (tests-passed ts r s (p .1))
 
+-- tests, and then an acceptance, are a judgement; they need no byte
+pub run-tests : {A : Type 0} (ts : List Test) (a : A) (s : List ℕ) → run (tests ts >> accept a) s ≡ firstOf ts a
+run-tests [] a s = refl
+run-tests {A} (t ∷ ts) a s = ap (λ (o : Answer A). if t .holds then refused (t .says) else o) (run-tests ts a s)
+
+pub tests-none : {A : Type 0} (ts : List Test) (a : A) → AtMost (tests ts >> accept a) 0
+tests-none [] a = tt
+tests-none (t ∷ ts) a = tests-none ts a
+
 -- an accepted reading in two parts accepted both
 pub record Both {A B : Type 0} (r : Staged A) (f : A → Staged B) (s : List ℕ) (b : B) : Type 0 where
   pub mid : A
@@ -68,12 +77,9 @@ pub record Both {A B : Type 0} (r : Staged A) (f : A → Staged B) (s : List ℕ
   pub second : run (f mid) s ≡ accepted b
 
 pub both : {A B : Type 0} (r : Staged A) (f : A → Staged B) (s : List ℕ) (b : B) → run (r >>= f) s ≡ accepted b → Both r f s b
-both {A} r f s b e = go (run r s) refl (sym (run-bind r f s) ∙ e)
-  where
-    go : (o : Answer A) → run r s ≡ o → andThen o (λ a. run (f a) s) ≡ accepted b → Both r f s b
-    go (accepted a) p d = record { mid = a; first = p; second = d }
-    go (short l n) p d = let z : _≡_ {A = ℕ} 0 1 = cc in absurd (let x : ⊥ = omega arith in x)
-    go (refused ns) p d = let z : _≡_ {A = ℕ} 0 1 = cc in absurd (let x : ⊥ = omega arith in x)
+both r f s b e =
+    let w = went (run r s) (λ a. run (f a) s) b (sym e ∙ run-bind r f s) in
+    record { mid = w .mid; first = sym (w .first); second = sym (w .second) }
 
 pub at-most-more : {A : Type 0} (r : Staged A) (j k : ℕ) → AtMost r k → AtMost r (j + k)
 at-most-more (accept a) j k h = tt

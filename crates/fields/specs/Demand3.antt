@@ -3,6 +3,8 @@ use Prim.Native.Nat.{ℕ, zero, suc, _≤_, _<_}
 use mathlib.Core.Path.{_≡_}
 use mathlib.Core.List.{List, [], _∷_, _++_}
 use lib.ListN.{length}
+use Rattle.fields.specs.declared.refusal.Refusal.{Refusal}
+use Rattle.fields.specs.declared.refusal.Refusal.the-variants.{FromSliceTooSmall}
 use Rattle.fields.specs.Answer.{Answer, accepted, short, refused}
 use Rattle.fields.specs.Staged.{Staged, accept, refuseIf, need}
 
@@ -46,3 +48,14 @@ AtMost (accept a) k = Unit {0}
 AtMost (refuseIf c ns r) k = AtMost r k
 AtMost (need n next) zero = ⊥
 AtMost (need n next) (suc k) = (b : List ℕ) → AtMost (next b) k
+
+-- two of the code's own answers, each as `answer` reads it: r to the bytes s, q to the same bytes and t behind them
+pub record Readings {A R : Type 0} (read : List ℕ → Answer A) (answer : R → Answer A) (s t : List ℕ) (r q : R) : Type 0 where
+  pub first : answer r ≡ read s
+  pub longer : answer q ≡ read (s ++ t)
+
+-- the first three parts of them, whose refusals are made by `no`
+pub record CodeDemand3 {A R : Type 0} (read : List ℕ → Answer A) (answer : R → Answer A) (no : Refusal → R) : Type 0 where
+  pub final : (s t : List ℕ) (r q : R) → Readings read answer s t r q → Final (answer r) → q ≡ r
+  pub waits : (s t : List ℕ) (r q : R) (l n : ℕ) → Readings read answer s t r q → r ≡ no (FromSliceTooSmall l n) → length (s ++ t) < n → q ≡ no (FromSliceTooSmall (length (s ++ t)) n)
+  pub enough : (s t : List ℕ) (r q : R) (l m n : ℕ) → Readings read answer s t r q → r ≡ no (FromSliceTooSmall l n) → length (s ++ t) ≡ n → q ≡ no (FromSliceTooSmall m n) → ⊥
