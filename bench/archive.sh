@@ -1,5 +1,5 @@
 #!/bin/sh
-# Makes libcfdp_nak.a for a machine that is no x86-64, for which alone `rt staticlib` compiles: keeps the module that the kit's back end
+# Makes libcfdp.a for a machine that is no x86-64, for which alone `rt staticlib` compiles: keeps the module that the kit's back end
 # hands to its compiler, and has the same compiler compile it for this machine, as optimised. For timing and comparing only.
 #   bench/archive.sh FOLDER
 set -eu
@@ -26,7 +26,7 @@ exec "$tools/bin/clang" "\$@"
 EOF
 chmod +x "$same/on/$machine/toolchain/bin/clang"
 
-RATTLE_HOME=$same rt staticlib cfdp_nak
+RATTLE_HOME=$same rt staticlib cfdp
 "$tools/bin/clang" --target="$machine-unknown-linux-gnu" -w -O3 -fPIC -c -x ir "$out/module.bc" -o "$out/module.o" 2>/dev/null
-rm -f "$out/libcfdp_nak.a"
-"$tools/bin/llvm-ar" rcs "$out/libcfdp_nak.a" "$out/module.o"
+rm -f "$out/libcfdp.a"
+"$tools/bin/llvm-ar" rcs "$out/libcfdp.a" "$out/module.o"

@@ -16,13 +16,13 @@ command -v cargo >/dev/null || not_run "no cargo"
 
 out=target/link
 mkdir -p "$out"
-rt staticlib cfdp_nak >"$out/staticlib.log" 2>&1 || { cat "$out/staticlib.log" >&2; exit 1; }
+rt staticlib cfdp >"$out/staticlib.log" 2>&1 || { cat "$out/staticlib.log" >&2; exit 1; }
 
 # Nothing allocates or panics: beside the compiler's own copies of memory the archive asks for no function of anyone.
-asked=$(nm -u target/staticlib/libcfdp_nak.a | awk '$1 == "U" && $2 !~ /^mem(cpy|set|move)$/ { print $2 }')
+asked=$(nm -u target/staticlib/libcfdp.a | awk '$1 == "U" && $2 !~ /^mem(cpy|set|move)$/ { print $2 }')
 [ -z "$asked" ] || { echo "link: the archive asks for $asked" >&2; exit 1; }
 
-cc -std=c99 -Wall -Wextra -Werror -pedantic -O2 -Iinclude link/c/main.c target/staticlib/libcfdp_nak.a -o "$out/c"
+cc -std=c99 -Wall -Wextra -Werror -pedantic -O2 -Iinclude link/c/main.c target/staticlib/libcfdp.a -o "$out/c"
 "$out/c" >"$out/c.txt"
 diff link/expected.txt "$out/c.txt" || { echo "link: the program in C printed something else" >&2; exit 1; }
 

@@ -1,10 +1,10 @@
-/* Calls libcfdp_nak.a from C with document 01's NAK N: reads it, prints it, writes it back in both ways, and
+/* Calls libcfdp.a from C with document 01's NAK N: reads it, prints it, writes it back in both ways, and
    has a reading and a writing refused. */
 #include <inttypes.h>
 #include <stdio.h>
 #include <string.h>
 
-#include "cfdp_nak.h"
+#include "cfdp.h"
 
 static const uint8_t N[24] = {0x28, 0x00, 0x11, 0x00, 0x01, 0x02, 0x03, 0x08, 0x00, 0x00, 0x00, 0x00,
                               0x00, 0x00, 0x03, 0xE8, 0x00, 0x00, 0x00, 0x64, 0x00, 0x00, 0x00, 0xC8};

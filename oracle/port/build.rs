@@ -1,11 +1,11 @@
-//! Links libcfdp_nak.a, from the folder that CFDP_NAK_LIB names or from where `rt staticlib` writes it.
+//! Links libcfdp.a, from the folder that CFDP_LIB names or from where `rt staticlib` writes it.
 use std::env::var;
 
 fn main() {
     let here = var("CARGO_MANIFEST_DIR").expect("cargo sets it");
-    let folder = var("CFDP_NAK_LIB").unwrap_or(format!("{here}/../../target/staticlib"));
+    let folder = var("CFDP_LIB").unwrap_or(format!("{here}/../../target/staticlib"));
     println!("cargo:rustc-link-search=native={folder}");
-    println!("cargo:rustc-link-lib=static=cfdp_nak");
-    println!("cargo:rerun-if-changed={folder}/libcfdp_nak.a");
-    println!("cargo:rerun-if-env-changed=CFDP_NAK_LIB");
+    println!("cargo:rustc-link-lib=static=cfdp");
+    println!("cargo:rerun-if-changed={folder}/libcfdp.a");
+    println!("cargo:rerun-if-env-changed=CFDP_LIB");
 }

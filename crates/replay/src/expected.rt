@@ -2,7 +2,7 @@
 use crate::list;
 use crate::list::MOST_BYTES;
 use crate::list::MOST_LARGE;
-use cfdp_nak::read;
+use cfdp::read;
 
 // What stands in an answer and in lent numbers before the call, to show which of them it leaves.
 pub const UNTOUCHED: u64 = 0xEEEEEEEEEEEEEEEE;

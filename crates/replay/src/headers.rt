@@ -3,7 +3,7 @@ use crate::expected;
 use crate::expected::UNTOUCHED;
 use crate::list;
 use crate::list::MOST_BYTES;
-use cfdp_nak::headers;
+use cfdp::headers;
 
 pub fn checksum() -> bool {
     let mut bytes = [0u8; MOST_BYTES];

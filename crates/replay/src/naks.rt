@@ -5,10 +5,10 @@ use crate::list;
 use crate::list::MOST_BYTES;
 use crate::list::MOST_LARGE;
 use crate::list::MOST_NORMAL;
-use cfdp_nak::compare;
-use cfdp_nak::read;
-use cfdp_nak::reserve;
-use cfdp_nak::write;
+use cfdp::compare;
+use cfdp::read;
+use cfdp::reserve;
+use cfdp::write;
 
 pub fn nak_read() -> bool {
     let mut bytes = [0u8; MOST_BYTES];

@@ -1,7 +1,7 @@
-// Calls libcfdp_nak.a from Rust with document 01's NAK N: reads it, prints it, writes it back in both ways,
+// Calls libcfdp.a from Rust with document 01's NAK N: reads it, prints it, writes it back in both ways,
 // and has a reading and a writing refused.
 
-// `include/cfdp_nak.h`: a slice is a pointer and a length, an array is a pointer.
+// `include/cfdp.h`: a slice is a pointer and a length, an array is a pointer.
 extern "C" {
     fn cfdp_checksum(bytes: *const u8, bytes_len: usize) -> u16;
     fn cfdp_nak_read(bytes: *const u8, bytes_len: usize, answer: *mut [u64; 20]);

@@ -1,0 +1,48 @@
+-- `cfdp::headers::cfdp_header_read` meets its contract: the reading, refused or accepted, as numbers.
+-- Assumes nothing.
+use mathlib.Core.Path.{sym, ap, _∙_}
+use Rattle.header.specs.Answers.{headerAnswer}
+use Rattle.cfdp.specs.Shown.{readHeaderNumbers}
+use Rattle.cfdp.proofs.Shown.{refused-shown, read-header-shown}
+use borrow.Author.Needs.{needs}
+use Rattle.cfdp.proofs.headers.cfdp_header_read.Statement.{statement}
+use Rattle.cfdp.proofs.headers.cfdp_header_read.Tie as tie
+
+from-bytes-requires : tie.Need-from-bytes-requires
+from-bytes-requires c κs = search needs
+
+enum-known-read : tie.Need-enum-known-read
+enum-known-read c = search needs
+
+show-refusal-requires : tie.Need-show-refusal-requires
+show-refusal-requires c κs = search needs
+
+enum-known-read-2 : tie.Need-enum-known-read-2
+enum-known-read-2 c = search needs
+
+header-len-requires : tie.Need-header-len-requires
+header-len-requires c κs = search needs
+
+show-header-requires : tie.Need-show-header-requires
+show-header-requires c κs = search needs
+
+returns : tie.Need-returns
+returns c =
+    refused-shown readHeaderNumbers _ _ _ (ap headerAnswer (sym (c .before .before .before .read .given .1)) ∙ c .before .before .before .before .before .from-bytes .ensures) (c .show-refusal .ensures)
+
+returns-2 : tie.Need-returns-2
+returns-2 c =
+    read-header-shown _ _ _ _ (ap headerAnswer (sym (c .before .before .before .before .read2 .given .1)) ∙ c .before .before .before .before .before .before .from-bytes .ensures) (c .before .before .header-len .ensures .0) (c .show-header .ensures)
+
+pub cfdp-header-read-spec : {M : Type 1} → statement M
+cfdp-header-read-spec =
+    tie.close
+    (tie.spec
+    from-bytes-requires
+    enum-known-read
+    show-refusal-requires
+    enum-known-read-2
+    header-len-requires
+    show-header-requires
+    returns
+    returns-2)
