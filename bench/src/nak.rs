@@ -1,6 +1,6 @@
 //! A NAK read and written by both sides, into lent memory of the same size.
 use crate::timing::row;
-use port::ffi::{self, Answer, Header};
+use port::ffi::{self, ANSWER_LEN, Answer, Header};
 use spacepackets::cfdp::pdu::nak::{NakPduCreator, NakPduReader, SegmentRequests};
 use spacepackets::cfdp::pdu::{CommonPduConfig, PduHeader};
 use spacepackets::cfdp::{CrcFlag, Direction, LargeFileFlag, TransmissionMode};
@@ -56,7 +56,7 @@ impl Sample {
     }
 
     fn write_port(&self, buf: &mut [u8]) -> usize {
-        let mut answer = [0; 20];
+        let mut answer = [0; ANSWER_LEN];
         let (header, numbers) = (black_box(&self.port), black_box(&self.numbers));
         ffi::nak_write_normal(header, SCOPE, numbers, black_box(buf), &mut answer);
         accepted(&answer);
@@ -103,7 +103,7 @@ fn read_rust(bytes: &[u8], numbers: &mut [u64]) -> usize {
 }
 
 fn read_port(bytes: &[u8], numbers: &mut [u64]) -> usize {
-    let mut answer = [0; 20];
+    let mut answer = [0; ANSWER_LEN];
     ffi::nak_read(bytes, &mut answer);
     accepted(&answer);
     let (area, end) = (answer[17] as usize, answer[18] as usize);
@@ -111,7 +111,7 @@ fn read_port(bytes: &[u8], numbers: &mut [u64]) -> usize {
 }
 
 fn is_read(bytes: &[u8]) -> bool {
-    let mut answer = [0; 20];
+    let mut answer = [0; ANSWER_LEN];
     ffi::nak_read(bytes, &mut answer);
     answer[0] == 0
 }

@@ -13,7 +13,7 @@ static const uint8_t N[24] = {0x28, 0x00, 0x11, 0x00, 0x01, 0x02, 0x03, 0x08, 0x
 enum { LARGE = 5, SOURCE = 10, SEQUENCE = 12, DESTINATION = 14, START = 15, END = 16, AREA = 17, STOP = 18, PAIRS = 19 };
 
 static void list(const uint8_t *bytes, size_t length) {
-    uint64_t answer[20];
+    uint64_t answer[CFDP_ANSWER_LEN];
     cfdp_nak_read(bytes, length, answer);
     if (answer[0] != 0) {
         printf("refused %" PRIu64 " %" PRIu64 " %" PRIu64 "\n", answer[0], answer[1], answer[2]);
@@ -33,7 +33,7 @@ static const uint8_t shape[10] = {0, 0, 0, 0, 0, 0, 0, 1, 1, 1};
 static const uint64_t ids[3] = {1, 2, 3};
 static const uint32_t numbers[2] = {100, 200};
 
-static void write_n(uint8_t *buf, size_t length, uint64_t answer[20]) {
+static void write_n(uint8_t *buf, size_t length, uint64_t answer[CFDP_ANSWER_LEN]) {
     cfdp_nak_write_normal(shape, ids, 0, 1000, numbers, 2, buf, length, answer);
 }
 
@@ -41,7 +41,7 @@ static const char *same(const uint8_t *buf) { return memcmp(buf, N, sizeof N) ==
 
 /* the pairs' bytes go into the reserved area before the rest is written */
 static void finish_n(uint8_t buf[24]) {
-    uint64_t place[20], answer[20];
+    uint64_t place[CFDP_ANSWER_LEN], answer[CFDP_ANSWER_LEN];
     cfdp_nak_reserve(shape, ids, 1, buf, 24, place);
     memcpy(buf + place[16], N + 16, place[17] - place[16]);
     cfdp_nak_finish(shape, ids, 1, 0, 1000, buf, 24, answer);
@@ -53,7 +53,7 @@ int main(void) {
     list(N, sizeof N);
 
     uint8_t buf[24] = {0};
-    uint64_t answer[20];
+    uint64_t answer[CFDP_ANSWER_LEN];
     write_n(buf, sizeof buf, answer);
     printf("written %" PRIu64 ", %s\n", answer[15], same(buf));
     memset(buf, 0, sizeof buf);

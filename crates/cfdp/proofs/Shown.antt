@@ -70,10 +70,10 @@ pub header-numbers : (h : PduHeader) (rest : List ℕ) (t d m c f g s : ℕ) →
 header-numbers h rest t d m c f g s et ed em ec ef eg es = rw (et, ed, em, ec, ef, eg, es)
 
 -- a header that was read is shown with its length
-pub read-header-shown : (h : PduHeader) (n : ℕ) (o : Answer PduHeader) (out : List ℕ) → accepted h ≡ o → n ≡ headerLength h → out ≡ 0 ∷ (headerNumbers h ++ (n ∷ 0 ∷ 0 ∷ 0 ∷ 0 ∷ [])) → out ≡ shown readHeaderNumbers o
-read-header-shown h n o out e l p = accepted-shown readHeaderNumbers h o out e (p ∙ ap (λ (k : ℕ). 0 ∷ (headerNumbers h ++ (k ∷ 0 ∷ 0 ∷ 0 ∷ 0 ∷ []))) l)
+pub read-header-shown : (h : PduHeader) (n : ℕ) (o : Answer PduHeader) (out : List ℕ) → accepted h ≡ o → n ≡ headerLength h → out ≡ padded answerSize (0 ∷ (headerNumbers h ++ (n ∷ 0 ∷ 0 ∷ 0 ∷ 0 ∷ []))) → out ≡ shown readHeaderNumbers o
+read-header-shown h n o out e l p = accepted-shown readHeaderNumbers h o out e (p ∙ ap (λ (k : ℕ). padded answerSize (0 ∷ (headerNumbers h ++ (k ∷ [])))) l)
 
 -- a NAK that was reserved is shown with the length that it will have
-pub reserved-shown : (r : ReservedNak) (n : ℕ) (o : Answer ReservedNak) (out : List ℕ) → accepted r ≡ o → n ≡ pduLength (r .header) → out ≡ 0 ∷ (headerNumbers (r .header) ++ (r .count ∷ r .area ∷ r .stop ∷ n ∷ 0 ∷ []))
+pub reserved-shown : (r : ReservedNak) (n : ℕ) (o : Answer ReservedNak) (out : List ℕ) → accepted r ≡ o → n ≡ pduLength (r .header) → out ≡ padded answerSize (0 ∷ (headerNumbers (r .header) ++ (r .count ∷ r .area ∷ r .stop ∷ n ∷ 0 ∷ [])))
     → out ≡ shown reservedNumbers o
-reserved-shown r n o out e l p = accepted-shown reservedNumbers r o out e (p ∙ ap (λ (k : ℕ). 0 ∷ (headerNumbers (r .header) ++ (r .count ∷ r .area ∷ r .stop ∷ k ∷ 0 ∷ []))) l)
+reserved-shown r n o out e l p = accepted-shown reservedNumbers r o out e (p ∙ ap (λ (k : ℕ). padded answerSize (0 ∷ (headerNumbers (r .header) ++ (r .count ∷ r .area ∷ r .stop ∷ k ∷ [])))) l)

@@ -1,4 +1,4 @@
--- An answer as 20 numbers: 0 and what was accepted, or the refusal's number and its values; the rest is 0.
+-- An answer as numbers: 0 and what was accepted, or the refusal's number and its values; the rest is 0.
 use Prim.Native.Nat.{ℕ, zero, suc}
 use mathlib.Core.Bool.{Bool, true, false}
 use mathlib.Core.List.{List, [], _∷_, _++_}
@@ -20,7 +20,7 @@ padded (suc n) (v ∷ vs) = v ∷ padded n vs
 
 -- as many as an answer has
 abbrev pub answerSize : ℕ
-answerSize = 20
+answerSize = 24
 
 -- an answer's numbers, given those of what is accepted
 abbrev pub answerNumbers : {A : Type 0} → (A → List ℕ) → Answer A → List ℕ

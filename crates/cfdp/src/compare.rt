@@ -9,6 +9,7 @@ ghost use Rattle.nak.specs.Reading.{readingNak};
 ghost use Rattle.nak.specs.Comparing.{compareAnswer, comparing};
 ghost use Rattle.cfdp.specs.Given.{nakHeader, comparingFrom};
 ghost use Rattle.cfdp.specs.Shown.{shown, verdictNumber};
+use crate::Answer;
 use crate::header_from;
 use crate::show_number;
 use crate::show_refusal;
@@ -20,7 +21,7 @@ use nak::NakResult;
 use nak::compare;
 use nak::compare::CompareResult;
 
-fn show_verdict(result: CompareResult, answer: &mut [u64; 20])
+fn show_verdict(result: CompareResult, answer: &mut Answer)
     ensures { λ _. ⌜ now (answer .exit) ≡ shown verdictNumber (compareAnswer result) ⌝ }
 {
     match result {
@@ -48,7 +49,7 @@ pub extern "C" fn cfdp_nak_compare(
     ids: &[u64; 3],
     start: u64,
     end: u64,
-    answer: &mut [u64; 20],
+    answer: &mut Answer,
 )
     ensures { λ _. ⌜ now (answer .exit) ≡ shown verdictNumber (comparingFrom (nakHeader (now (shape .entry)) (now (ids .entry))) (λ h. comparing (h .file) h start end [] (now (bytes .entry))) (now (bytes .entry))) ⌝ }
 {
@@ -70,7 +71,7 @@ pub extern "C" fn cfdp_nak_compare_normal(
     start: u64,
     end: u64,
     numbers: &[u32],
-    answer: &mut [u64; 20],
+    answer: &mut Answer,
 )
     ensures { λ _. ⌜ now (answer .exit) ≡ shown verdictNumber (comparingFrom (nakHeader (now (shape .entry)) (now (ids .entry))) (λ h. comparing LargeFileFlag.Normal h start end (now (numbers .entry)) (now (bytes .entry))) (now (bytes .entry))) ⌝ }
 {
@@ -92,7 +93,7 @@ pub extern "C" fn cfdp_nak_compare_large(
     start: u64,
     end: u64,
     numbers: &[u64],
-    answer: &mut [u64; 20],
+    answer: &mut Answer,
 )
     ensures { λ _. ⌜ now (answer .exit) ≡ shown verdictNumber (comparingFrom (nakHeader (now (shape .entry)) (now (ids .entry))) (λ h. comparing LargeFileFlag.Large h start end (now (numbers .entry)) (now (bytes .entry))) (now (bytes .entry))) ⌝ }
 {

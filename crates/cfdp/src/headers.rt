@@ -11,6 +11,7 @@ ghost use Rattle.header.specs.Verifying.{verifying};
 ghost use Rattle.header.specs.Writing.{writingHeader, headerMemory};
 ghost use Rattle.cfdp.specs.Given.{headerFrom, leftBy};
 ghost use Rattle.cfdp.specs.Shown.{shown, headerNumbers, oneNumber, readHeaderNumbers};
+use crate::Answer;
 use crate::header_from;
 use crate::show_header;
 use crate::show_length;
@@ -27,7 +28,7 @@ pub extern "C" fn cfdp_checksum(bytes: &[u8]) -> u16
 }
 
 #[no_mangle]
-pub extern "C" fn cfdp_header_read(bytes: &[u8], answer: &mut [u64; 20])
+pub extern "C" fn cfdp_header_read(bytes: &[u8], answer: &mut Answer)
     ensures { λ _. ⌜ now (answer .exit) ≡ shown readHeaderNumbers (run readingHeader (now (bytes .entry))) ⌝ }
 {
     let read = PduHeader::from_bytes(bytes);
@@ -40,7 +41,7 @@ pub extern "C" fn cfdp_header_read(bytes: &[u8], answer: &mut [u64; 20])
     }
 }
 
-fn show_built(result: HeaderResult, answer: &mut [u64; 20])
+fn show_built(result: HeaderResult, answer: &mut Answer)
     ensures { λ _. ⌜ now (answer .exit) ≡ shown headerNumbers (headerAnswer result) ⌝ }
 {
     match result {
@@ -54,7 +55,7 @@ pub extern "C" fn cfdp_header_build(
     shape: &[u8; 10],
     data_length: u16,
     ids: &[u64; 3],
-    answer: &mut [u64; 20],
+    answer: &mut Answer,
 )
     ensures { λ _. ⌜ now (answer .exit) ≡ shown headerNumbers (andThen (headerFrom (now (shape .entry)) «data_length» (now (ids .entry))) judging) ⌝ }
 {
@@ -74,7 +75,7 @@ pub extern "C" fn cfdp_header_write(
     data_length: u16,
     ids: &[u64; 3],
     buf: &mut [u8],
-    answer: &mut [u64; 20],
+    answer: &mut Answer,
 )
     ensures answered { λ _. ⌜ now (answer .exit) ≡ shown oneNumber (andThen (headerFrom (now (shape .entry)) «data_length» (now (ids .entry))) (λ h. writingHeader h (length (now (buf .entry))))) ⌝ }
     ensures stored { λ _. ⌜ now (buf .exit) ≡ leftBy (headerFrom (now (shape .entry)) «data_length» (now (ids .entry))) (λ h. headerMemory h (now (buf .entry))) (now (buf .entry)) ⌝ }
@@ -95,7 +96,7 @@ pub extern "C" fn cfdp_header_verify(
     data_length: u16,
     ids: &[u64; 3],
     bytes: &[u8],
-    answer: &mut [u64; 20],
+    answer: &mut Answer,
 )
     ensures { λ _. ⌜ now (answer .exit) ≡ shown oneNumber (andThen (headerFrom (now (shape .entry)) «data_length» (now (ids .entry))) (λ h. run (verifying h) (now (bytes .entry)))) ⌝ }
 {

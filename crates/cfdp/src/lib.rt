@@ -27,6 +27,11 @@ pub mod read;
 pub mod reserve;
 pub mod write;
 
+// An answer: 0 and what was accepted, or the refusal's number and its values; zeros behind.
+pub const ANSWER_LEN: usize = 24;
+
+pub type Answer = [u64; ANSWER_LEN];
+
 // A header from its numbers: 13 where the two identifiers' widths differ, and nothing else of it is judged here.
 fn header_from(shape: &[u8; 10], length: u16, ids: &[u64; 3]) -> HeaderResult
     ensures { λ r. ⌜ headerAnswer r ≡ headerFrom (now (shape .entry)) length (now (ids .entry)) ⌝ }
@@ -59,16 +64,16 @@ fn header_from(shape: &[u8; 10], length: u16, ids: &[u64; 3]) -> HeaderResult
 }
 
 // Up to three numbers, and zeros behind them.
-fn show_few(first: u64, second: u64, third: u64, answer: &mut [u64; 20])
+fn show_few(first: u64, second: u64, third: u64, answer: &mut Answer)
     ensures { λ _. ⌜ now (answer .exit) ≡ padded answerSize (first ∷ second ∷ third ∷ []) ⌝ }
 {
-    *answer = [0; 20];
+    *answer = [0; ANSWER_LEN];
     answer[0] = first;
     answer[1] = second;
     answer[2] = third;
 }
 
-fn show_refusal(refusal: Refusal, answer: &mut [u64; 20])
+fn show_refusal(refusal: Refusal, answer: &mut Answer)
     ensures { λ _. ⌜ now (answer .exit) ≡ refusalShown refusal ⌝ }
 {
     let n = refusal.numbers();
@@ -76,15 +81,15 @@ fn show_refusal(refusal: Refusal, answer: &mut [u64; 20])
 }
 
 // A length or a count.
-fn show_number(value: usize, answer: &mut [u64; 20])
+fn show_number(value: usize, answer: &mut Answer)
     ensures { λ _. ⌜ now (answer .exit) ≡ padded answerSize (0 ∷ value ∷ []) ⌝ }
 {
     show_few(0, value as u64, 0, answer)
 }
 
 // A header, and up to five numbers behind it.
-fn show_header(header: PduHeader, a: u64, b: u64, c: u64, d: u64, e: u64, answer: &mut [u64; 20])
-    ensures { λ _. ⌜ now (answer .exit) ≡ 0 ∷ (headerNumbers header ++ (a ∷ b ∷ c ∷ d ∷ e ∷ [])) ⌝ }
+fn show_header(header: PduHeader, a: u64, b: u64, c: u64, d: u64, e: u64, answer: &mut Answer)
+    ensures { λ _. ⌜ now (answer .exit) ≡ padded answerSize (0 ∷ (headerNumbers header ++ (a ∷ b ∷ c ∷ d ∷ e ∷ []))) ⌝ }
 {
     let kind = header.kind;
     let direction = header.direction;
@@ -95,22 +100,15 @@ fn show_header(header: PduHeader, a: u64, b: u64, c: u64, d: u64, e: u64, answer
     let metadata = header.metadata;
     let width = header.width as u64;
     let sequence = header.sequence.0;
-    let kind_bit = kind.bit() as u64;
-    let direction_bit = direction.bit() as u64;
-    let mode_bit = mode.bit() as u64;
-    let crc_bit = crc.bit() as u64;
-    let file_bit = file.bit() as u64;
-    let control_bit = control.bit() as u64;
-    let metadata_bit = metadata.bit() as u64;
     *answer = [
         0,
-        kind_bit,
-        direction_bit,
-        mode_bit,
-        crc_bit,
-        file_bit,
-        control_bit,
-        metadata_bit,
+        kind.bit() as u64,
+        direction.bit() as u64,
+        mode.bit() as u64,
+        crc.bit() as u64,
+        file.bit() as u64,
+        control.bit() as u64,
+        metadata.bit() as u64,
         header.length as u64,
         width,
         header.source.0,
@@ -123,10 +121,14 @@ fn show_header(header: PduHeader, a: u64, b: u64, c: u64, d: u64, e: u64, answer
         c,
         d,
         e,
+        0,
+        0,
+        0,
+        0,
     ];
 }
 
-fn show_length(result: LengthResult, answer: &mut [u64; 20])
+fn show_length(result: LengthResult, answer: &mut Answer)
     ensures { λ _. ⌜ now (answer .exit) ≡ shown oneNumber (lengthAnswer result) ⌝ }
 {
     match result {
@@ -135,7 +137,7 @@ fn show_length(result: LengthResult, answer: &mut [u64; 20])
     }
 }
 
-fn show_written(result: WriteResult, answer: &mut [u64; 20])
+fn show_written(result: WriteResult, answer: &mut Answer)
     ensures { λ _. ⌜ now (answer .exit) ≡ shown writtenNumbers (writeAnswer result) ⌝ }
 {
     match result {

@@ -10,6 +10,7 @@ ghost use Rattle.nak.specs.Nak.{pairSize};
 ghost use Rattle.nak.specs.Reading.{readingNak};
 ghost use Rattle.cfdp.specs.Shown.{shown, nakNumbers};
 ghost use Rattle.cfdp.specs.Pairs.{isPair, pairAt, copied, copiedInto};
+use crate::Answer;
 use crate::show_header;
 use crate::show_refusal;
 use header::LargeFileFlag;
@@ -19,7 +20,7 @@ use nak::requests::NextRequest;
 use nak::requests::RequestCursor;
 
 #[no_mangle]
-pub extern "C" fn cfdp_nak_read(bytes: &[u8], answer: &mut [u64; 20])
+pub extern "C" fn cfdp_nak_read(bytes: &[u8], answer: &mut Answer)
     ensures { λ _. ⌜ now (answer .exit) ≡ shown nakNumbers (run readingNak (now (bytes .entry))) ⌝ }
 {
     let read = Nak::from_bytes(bytes);

@@ -5,6 +5,7 @@ ghost use Rattle.fields.specs.Answer.{andThen};
 ghost use Rattle.nak.specs.Reserving.{reserveAnswer, reserving, finishing, finishedMemory};
 ghost use Rattle.cfdp.specs.Given.{nakHeader, reservedFrom, leftBy};
 ghost use Rattle.cfdp.specs.Shown.{shown, reservedNumbers, writtenNumbers};
+use crate::Answer;
 use crate::header_from;
 use crate::show_header;
 use crate::show_refusal;
@@ -13,7 +14,7 @@ use header::HeaderResult;
 use nak::reserve::ReserveResult;
 use nak::reserve::ReservedNak;
 
-fn show_reserved(result: ReserveResult, answer: &mut [u64; 20])
+fn show_reserved(result: ReserveResult, answer: &mut Answer)
     ensures { λ _. ⌜ now (answer .exit) ≡ shown reservedNumbers (reserveAnswer result) ⌝ }
 {
     match result {
@@ -35,7 +36,7 @@ pub extern "C" fn cfdp_nak_reserve(
     ids: &[u64; 3],
     pairs: usize,
     buf: &[u8],
-    answer: &mut [u64; 20],
+    answer: &mut Answer,
 )
     ensures { λ _. ⌜ now (answer .exit) ≡ shown reservedNumbers (andThen (nakHeader (now (shape .entry)) (now (ids .entry))) (λ h. reserving h pairs (length (now (buf .entry))))) ⌝ }
 {
@@ -58,7 +59,7 @@ pub extern "C" fn cfdp_nak_finish(
     start: u64,
     end: u64,
     buf: &mut [u8],
-    answer: &mut [u64; 20],
+    answer: &mut Answer,
 )
     ensures answered { λ _. ⌜ now (answer .exit) ≡ shown writtenNumbers (andThen (nakHeader (now (shape .entry)) (now (ids .entry))) (λ h. finishing (reservedFrom h pairs) start end (length (now (buf .entry))))) ⌝ }
     ensures stored { λ _. ⌜ now (buf .exit) ≡ leftBy (nakHeader (now (shape .entry)) (now (ids .entry))) (λ h. finishedMemory (reservedFrom h pairs) start end (now (buf .entry))) (now (buf .entry)) ⌝ }

@@ -7,6 +7,7 @@ ghost use Rattle.nak.specs.Counting.{countAnswer, mostRequests};
 ghost use Rattle.nak.specs.Writing.{writingNak, nakMemory};
 ghost use Rattle.cfdp.specs.Given.{nakHeader, leftBy};
 ghost use Rattle.cfdp.specs.Shown.{shown, oneNumber, writtenNumbers};
+use crate::Answer;
 use crate::header_from;
 use crate::show_number;
 use crate::show_refusal;
@@ -24,7 +25,7 @@ pub extern "C" fn cfdp_nak_write(
     start: u64,
     end: u64,
     buf: &mut [u8],
-    answer: &mut [u64; 20],
+    answer: &mut Answer,
 )
     ensures answered { λ _. ⌜ now (answer .exit) ≡ shown writtenNumbers (andThen (nakHeader (now (shape .entry)) (now (ids .entry))) (λ h. writingNak (h .file) h start end 0 (length (now (buf .entry))))) ⌝ }
     ensures stored { λ _. ⌜ now (buf .exit) ≡ leftBy (nakHeader (now (shape .entry)) (now (ids .entry))) (λ h. nakMemory (h .file) h start end [] (now (buf .entry))) (now (buf .entry)) ⌝ }
@@ -47,7 +48,7 @@ pub extern "C" fn cfdp_nak_write_normal(
     end: u64,
     numbers: &[u32],
     buf: &mut [u8],
-    answer: &mut [u64; 20],
+    answer: &mut Answer,
 )
     ensures answered { λ _. ⌜ now (answer .exit) ≡ shown writtenNumbers (andThen (nakHeader (now (shape .entry)) (now (ids .entry))) (λ h. writingNak LargeFileFlag.Normal h start end (length (now (numbers .entry))) (length (now (buf .entry))))) ⌝ }
     ensures stored { λ _. ⌜ now (buf .exit) ≡ leftBy (nakHeader (now (shape .entry)) (now (ids .entry))) (λ h. nakMemory LargeFileFlag.Normal h start end (now (numbers .entry)) (now (buf .entry))) (now (buf .entry)) ⌝ }
@@ -70,7 +71,7 @@ pub extern "C" fn cfdp_nak_write_large(
     end: u64,
     numbers: &[u64],
     buf: &mut [u8],
-    answer: &mut [u64; 20],
+    answer: &mut Answer,
 )
     ensures answered { λ _. ⌜ now (answer .exit) ≡ shown writtenNumbers (andThen (nakHeader (now (shape .entry)) (now (ids .entry))) (λ h. writingNak LargeFileFlag.Large h start end (length (now (numbers .entry))) (length (now (buf .entry))))) ⌝ }
     ensures stored { λ _. ⌜ now (buf .exit) ≡ leftBy (nakHeader (now (shape .entry)) (now (ids .entry))) (λ h. nakMemory LargeFileFlag.Large h start end (now (numbers .entry)) (now (buf .entry))) (now (buf .entry)) ⌝ }
@@ -85,7 +86,7 @@ pub extern "C" fn cfdp_nak_write_large(
     }
 }
 
-fn show_count(result: CountResult, answer: &mut [u64; 20])
+fn show_count(result: CountResult, answer: &mut Answer)
     ensures { λ _. ⌜ now (answer .exit) ≡ shown oneNumber (countAnswer result) ⌝ }
 {
     match result {
@@ -99,7 +100,7 @@ pub extern "C" fn cfdp_nak_most(
     shape: &[u8; 10],
     ids: &[u64; 3],
     packet: usize,
-    answer: &mut [u64; 20],
+    answer: &mut Answer,
 )
     ensures { λ _. ⌜ now (answer .exit) ≡ shown oneNumber (andThen (nakHeader (now (shape .entry)) (now (ids .entry))) (λ h. mostRequests h packet)) ⌝ }
 {

@@ -2,6 +2,7 @@
 use crate::list;
 use crate::list::MOST_BYTES;
 use crate::list::MOST_LARGE;
+use cfdp::Answer;
 use cfdp::read;
 
 // What stands in an answer and in lent numbers before the call, to show which of them it leaves.
@@ -24,7 +25,7 @@ fn numbers(found: &[u64], count: usize, rest: u64) -> bool {
     same
 }
 
-pub fn answer(found: &[u64; 20]) -> bool {
+pub fn answer(found: &Answer) -> bool {
     let count = list::byte() as usize;
     numbers(found, count, 0)
 }
@@ -79,7 +80,7 @@ fn one_by_one(area: &[u8], large: bool, copied: &[u64], count: usize) -> bool {
 }
 
 // Copies the requests of an accepted reading; whether they lie in its bytes, and are the same one by one.
-fn copy(answer: &[u64; 20], bytes: &[u8], copied: &mut [u64]) -> bool {
+fn copy(answer: &Answer, bytes: &[u8], copied: &mut [u64]) -> bool {
     if answer[0] != 0 {
         return true;
     }
@@ -98,7 +99,7 @@ fn copy(answer: &[u64; 20], bytes: &[u8], copied: &mut [u64]) -> bool {
 }
 
 // Whether the requests of a reading are the list's pairs; a refused one has none.
-pub fn requests(answer: &[u64; 20], bytes: &[u8]) -> bool {
+pub fn requests(answer: &Answer, bytes: &[u8]) -> bool {
     let mut copied = [UNTOUCHED; MOST_LARGE];
     let same = copy(answer, bytes, &mut copied);
     let count = list::four() as usize;

@@ -5,6 +5,7 @@ use crate::list;
 use crate::list::MOST_BYTES;
 use crate::list::MOST_LARGE;
 use crate::list::MOST_NORMAL;
+use cfdp::ANSWER_LEN;
 use cfdp::compare;
 use cfdp::read;
 use cfdp::reserve;
@@ -13,7 +14,7 @@ use cfdp::write;
 pub fn nak_read() -> bool {
     let mut bytes = [0u8; MOST_BYTES];
     let n = list::bytes(&mut bytes);
-    let mut answer = [UNTOUCHED; 20];
+    let mut answer = [UNTOUCHED; ANSWER_LEN];
     read::cfdp_nak_read(&bytes[..n], &mut answer);
     let same = expected::answer(&answer);
     same & expected::requests(&answer, &bytes[..n])
@@ -28,7 +29,7 @@ pub fn nak_write() -> bool {
     let filler = list::byte();
     let mut buf = [filler; MOST_BYTES];
     let n = list::within(lent, &buf);
-    let mut answer = [UNTOUCHED; 20];
+    let mut answer = [UNTOUCHED; ANSWER_LEN];
     write::cfdp_nak_write(&shape, &ids, start, end, &mut buf[..n], &mut answer);
     let same = expected::answer(&answer);
     same & expected::after(&buf, filler)
@@ -45,7 +46,7 @@ pub fn nak_write_normal() -> bool {
     let filler = list::byte();
     let mut buf = [filler; MOST_BYTES];
     let n = list::within(lent, &buf);
-    let mut answer = [UNTOUCHED; 20];
+    let mut answer = [UNTOUCHED; ANSWER_LEN];
     write::cfdp_nak_write_normal(
         &shape,
         &ids,
@@ -70,7 +71,7 @@ pub fn nak_write_large() -> bool {
     let filler = list::byte();
     let mut buf = [filler; MOST_BYTES];
     let n = list::within(lent, &buf);
-    let mut answer = [UNTOUCHED; 20];
+    let mut answer = [UNTOUCHED; ANSWER_LEN];
     write::cfdp_nak_write_large(
         &shape,
         &ids,
@@ -88,7 +89,7 @@ pub fn nak_most() -> bool {
     let shape = list::nak_shape();
     let ids = list::ids();
     let packet = list::eight() as usize;
-    let mut answer = [UNTOUCHED; 20];
+    let mut answer = [UNTOUCHED; ANSWER_LEN];
     write::cfdp_nak_most(&shape, &ids, packet, &mut answer);
     expected::answer(&answer)
 }
@@ -101,7 +102,7 @@ pub fn nak_reserve() -> bool {
     let filler = list::byte();
     let buf = [filler; MOST_BYTES];
     let n = list::within(lent, &buf);
-    let mut answer = [UNTOUCHED; 20];
+    let mut answer = [UNTOUCHED; ANSWER_LEN];
     reserve::cfdp_nak_reserve(&shape, &ids, pairs, &buf[..n], &mut answer);
     let same = expected::answer(&answer);
     same & expected::after(&buf, filler)
@@ -117,7 +118,7 @@ pub fn nak_finish() -> bool {
     let filler = list::byte();
     let mut buf = [filler; MOST_BYTES];
     let n = list::within(lent, &buf);
-    let mut answer = [UNTOUCHED; 20];
+    let mut answer = [UNTOUCHED; ANSWER_LEN];
     reserve::cfdp_nak_finish(&shape, &ids, pairs, start, end, &mut buf[..n], &mut answer);
     let same = expected::answer(&answer);
     same & expected::after(&buf, filler)
@@ -130,7 +131,7 @@ pub fn nak_compare() -> bool {
     let end = list::eight();
     let mut bytes = [0u8; MOST_BYTES];
     let n = list::bytes(&mut bytes);
-    let mut answer = [UNTOUCHED; 20];
+    let mut answer = [UNTOUCHED; ANSWER_LEN];
     compare::cfdp_nak_compare(&bytes[..n], &shape, &ids, start, end, &mut answer);
     expected::answer(&answer)
 }
@@ -144,7 +145,7 @@ pub fn nak_compare_normal() -> bool {
     let n = list::bytes(&mut bytes);
     let mut numbers = [0u32; MOST_NORMAL];
     let count = list::normal(&mut numbers);
-    let mut answer = [UNTOUCHED; 20];
+    let mut answer = [UNTOUCHED; ANSWER_LEN];
     compare::cfdp_nak_compare_normal(
         &bytes[..n],
         &shape,
@@ -166,7 +167,7 @@ pub fn nak_compare_large() -> bool {
     let n = list::bytes(&mut bytes);
     let mut numbers = [0u64; MOST_LARGE];
     let count = list::large(&mut numbers);
-    let mut answer = [UNTOUCHED; 20];
+    let mut answer = [UNTOUCHED; ANSWER_LEN];
     compare::cfdp_nak_compare_large(
         &bytes[..n],
         &shape,

@@ -1,10 +1,15 @@
 // Calls libcfdp.a from Rust with document 01's NAK N: reads it, prints it, writes it back in both ways,
 // and has a reading and a writing refused.
 
+// How many numbers an answer has.
+const ANSWER_LEN: usize = 24;
+
+type Answer = [u64; ANSWER_LEN];
+
 // `include/cfdp.h`: a slice is a pointer and a length, an array is a pointer.
 extern "C" {
     fn cfdp_checksum(bytes: *const u8, bytes_len: usize) -> u16;
-    fn cfdp_nak_read(bytes: *const u8, bytes_len: usize, answer: *mut [u64; 20]);
+    fn cfdp_nak_read(bytes: *const u8, bytes_len: usize, answer: *mut Answer);
     fn cfdp_nak_pairs(
         area: *const u8,
         area_len: usize,
@@ -21,7 +26,7 @@ extern "C" {
         count: usize,
         buf: *mut u8,
         buf_len: usize,
-        answer: *mut [u64; 20],
+        answer: *mut Answer,
     );
     fn cfdp_nak_reserve(
         shape: *const [u8; 10],
@@ -29,7 +34,7 @@ extern "C" {
         pairs: usize,
         buf: *const u8,
         buf_len: usize,
-        answer: *mut [u64; 20],
+        answer: *mut Answer,
     );
     fn cfdp_nak_finish(
         shape: *const [u8; 10],
@@ -39,7 +44,7 @@ extern "C" {
         end: u64,
         buf: *mut u8,
         buf_len: usize,
-        answer: *mut [u64; 20],
+        answer: *mut Answer,
     );
     fn cfdp_nak_compare_normal(
         bytes: *const u8,
@@ -50,7 +55,7 @@ extern "C" {
         end: u64,
         numbers: *const u32,
         count: usize,
-        answer: *mut [u64; 20],
+        answer: *mut Answer,
     );
 }
 
@@ -59,8 +64,8 @@ const N: [u8; 24] = [
     0x00, 0x00, 0x00, 0x64, 0x00, 0x00, 0x00, 0xC8,
 ];
 
-fn read(bytes: &[u8]) -> [u64; 20] {
-    let mut answer = [0; 20];
+fn read(bytes: &[u8]) -> Answer {
+    let mut answer = [0; ANSWER_LEN];
     unsafe { cfdp_nak_read(bytes.as_ptr(), bytes.len(), &mut answer) };
     answer
 }
@@ -94,8 +99,8 @@ const SHAPE: [u8; 10] = [0, 0, 0, 0, 0, 0, 0, 1, 1, 1];
 const IDS: [u64; 3] = [1, 2, 3];
 const NUMBERS: [u32; 2] = [100, 200];
 
-fn write_n(buf: &mut [u8]) -> [u64; 20] {
-    let mut answer = [0; 20];
+fn write_n(buf: &mut [u8]) -> Answer {
+    let mut answer = [0; ANSWER_LEN];
     unsafe {
         cfdp_nak_write_normal(
             &SHAPE,
@@ -118,18 +123,18 @@ fn same(buf: &[u8]) -> &'static str {
 
 // The pairs' bytes go into the reserved area before the rest is written.
 fn finish_n(buf: &mut [u8]) {
-    let mut place = [0; 20];
+    let mut place = [0; ANSWER_LEN];
     unsafe { cfdp_nak_reserve(&SHAPE, &IDS, 1, buf.as_ptr(), buf.len(), &mut place) };
     let (area, stop) = (place[16] as usize, place[17] as usize);
     buf[area..stop].copy_from_slice(&N[area..stop]);
-    let mut answer = [0; 20];
+    let mut answer = [0; ANSWER_LEN];
     unsafe { cfdp_nak_finish(&SHAPE, &IDS, 1, 0, 1000, buf.as_mut_ptr(), buf.len(), &mut answer) };
     println!("reserved {area} to {stop}, finished {}, {}", answer[15], same(buf));
 }
 
 // Whether N is the NAK with that end of scope: 1 or 0.
 fn compare_n(end: u64) -> u64 {
-    let mut answer = [0; 20];
+    let mut answer = [0; ANSWER_LEN];
     unsafe {
         cfdp_nak_compare_normal(
             N.as_ptr(),

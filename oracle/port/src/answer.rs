@@ -1,6 +1,6 @@
-//! The twenty numbers that the library answers, taken apart: what was accepted, or the text of what
-//! was refused.
-use crate::ffi::{Answer, Header};
+//! The numbers that the library answers, taken apart: what was accepted, or the text of what was
+//! refused.
+use crate::ffi::{ANSWER_LEN, Answer, Header};
 use tools::{Field, Record, show};
 
 /// The text of an answer; `Err` where the port refused.
@@ -16,7 +16,7 @@ const NOT_A_DIRECTIVE: usize = 21;
 
 /// The N numbers of an acceptance. Every number after the answer's own must be 0.
 pub fn ask<const N: usize>(call: impl FnOnce(&mut Answer)) -> Result<[u64; N], String> {
-    let mut answer = [UNTOUCHED; 20];
+    let mut answer = [UNTOUCHED; ANSWER_LEN];
     call(&mut answer);
     let number = answer[0] as usize;
     let values = match number {

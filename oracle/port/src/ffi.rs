@@ -4,8 +4,10 @@
 //! No function of the library has a precondition, so each is safe for every argument: a slice goes
 //! over as its pointer and its length, an array as its pointer, and none is kept after the call.
 
-/// [0] is 0 for accepted or document 01's number, then its values, the rest 0.
-pub type Answer = [u64; 20];
+/// How many numbers an answer has: [0] is 0 for accepted or document 01's number, then its values, the
+/// rest 0.
+pub const ANSWER_LEN: usize = 24;
+pub type Answer = [u64; ANSWER_LEN];
 
 /// A header without its length: `shape` has seven flags and three widths, `ids` the three values,
 /// both in the order source, sequence number, destination.

@@ -2,7 +2,7 @@
 //! Names each record that differs, by its place in the file; the last line is 'N replayed, M differ'.
 //! Ends with 1 if any differ, or if the list is not of its form.
 use port::answer::UNTOUCHED;
-use port::ffi::{self, Answer, Header};
+use port::ffi::{self, ANSWER_LEN, Answer, Header};
 use std::io::{Read, Result, stdin};
 use std::process::ExitCode;
 
@@ -99,7 +99,7 @@ fn replayed(from: &mut Parts) -> bool {
     let answer = call(code, &mut inputs);
     let count = from.number(1);
     let mut expected = from.numbers(count, 8);
-    expected.resize(20, 0);
+    expected.resize(ANSWER_LEN, 0);
     let mut same = expected == answer;
     if matches!(code, 5 | 8..=12) {
         let mut after = from.counted().to_vec();
@@ -129,11 +129,11 @@ fn call(code: u64, inputs: &mut Inputs) -> Answer {
     };
     let large = &inputs.numbers;
     let normal: &Vec<u32> = &large.iter().map(|n| *n as u32).collect();
-    let mut answer = [UNTOUCHED; 20];
+    let mut answer = [UNTOUCHED; ANSWER_LEN];
     let a = &mut answer;
     match code {
         1 => {
-            *a = [0; 20];
+            *a = [0; ANSWER_LEN];
             a[1] = ffi::checksum(bytes).into();
         }
         2 => ffi::header_read(bytes, a),
