@@ -5,7 +5,7 @@ use crate::{Command, List, Record, Scope, parse, refusal};
 
 /// What the Rust answers to a command inside the domain, in the words of the port's library.
 pub struct Expected {
-    /// The first numbers of the library's twenty.
+    /// The first of the library's numbers.
     pub answer: Vec<u64>,
     /// The lent buffer after the call.
     pub buf: Option<Vec<u8>>,

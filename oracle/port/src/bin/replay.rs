@@ -157,11 +157,11 @@ fn call(code: u64, inputs: &mut Inputs) -> Answer {
 
 /// The pairs of an accepted reading, start and end by turns; none of a refused one.
 fn requests(answer: &Answer, bytes: &[u8]) -> Vec<u64> {
-    let [refused, .., area, end, count] = answer.map(|n| n as usize);
-    if refused != 0 {
+    if answer[0] != 0 {
         return Vec::new();
     }
+    let [area, stop, count] = [17, 18, 19].map(|place| answer[place] as usize);
     let mut numbers = vec![UNTOUCHED; 2 * count];
-    ffi::nak_pairs(&bytes[area..end], answer[5] == 1, &mut numbers);
+    ffi::nak_pairs(&bytes[area..stop], answer[5] == 1, &mut numbers);
     numbers
 }
