@@ -1,46 +1,54 @@
-/* The CFDP header and NAK codec (CCSDS 727.0-B-5) for C: the functions of libcfdp.a, which `rt staticlib cfdp`
-   proves and writes to target/staticlib/.
+/* The CFDP header and NAK codec (CCSDS 727.0-B-5) for C and C++: the functions of libcfdp.a, which `rt staticlib cfdp` proves
+   and writes to target/staticlib/.
 
-   Every function gives one proved answer to every value of its parameters. Nothing allocates, panics or keeps a pointer;
-   nothing is read or written outside the memory that is lent; lent memory may not overlap. A pointer with a length of 0
-   must not be null, but may point at anything. A refused write changes no byte of `buf`, an accepted one changes the
-   written bytes and no others.
+   Every function gives one proved answer to every value of its parameters. Nothing allocates or panics, and nothing is read
+   or written outside the memory that is lent.
 
-   A header goes in as numbers:
+   Memory. A pointer is not null, even with a length of 0, and points at as many elements as are named. Memory that a call
+   writes, all that is not const, overlaps no other memory of that call; memory that it only reads may overlap. A refused
+   write changes no byte of `buf`; an accepted one changes the written bytes and no others.
 
-     shape[10]     PDU type, direction, transmission mode, CRC flag, large file flag, segmentation control, segment
-                   metadata flag: 0 for a clear bit, anything else for a set one; then the widths in bytes of source,
-                   sequence number and destination, any value: what is not 1, 2, 4 or 8 is refused
-     ids[3]        the values of source, sequence number and destination
-     data_length   the data field's length, where it is given; a NAK's is worked out
+   Threads. Nothing is shared between calls: no function keeps a pointer, or anything else. Threads may call at the same time,
+   each with memory of its own to write.
 
-   An answer comes out as CFDP_ANSWER_LEN numbers: answer[0] is 0 for accepted, or the number of the refusal; its values follow; the
-   rest is 0. A HEADER in an answer is 14 numbers:
+   A header goes in as numbers: shape, seven flags and three widths in bytes, and ids, three values, at the places that
+   CFDP_SHAPE_.. and CFDP_ID_.. name; where it is asked for, the data field's length, which for a NAK is worked out. A flag is
+   clear where it is 0, and else set. A width may be any value: what is not 1, 2, 4 or 8 is refused.
 
-     PDU type, direction, transmission mode, CRC flag, large file flag, segmentation control, segment metadata flag (bits),
-     data field length, source width, source, sequence width, sequence number, destination width, destination
+   The source is the entity that sends the file, and the destination the one that receives it, in every PDU of a transaction.
+   A NAK travels from the destination to the source, and its direction bit, 1, says so: towards the file's sender.
 
-   Refusals:
+   An answer comes out as CFDP_ANSWER_LEN numbers, all of them written by every call: CFDP_ACCEPTED and what was accepted, or
+   the number of the refusal and its values; the rest is 0. HEADER below is the 14 numbers of a header, from
+   CFDP_ANSWER_TYPE to CFDP_ANSWER_DESTINATION. The NAK
 
-     answer[0]   meaning                                         answer[1], answer[2]
-      1          buffer short                                    length, needed length
-      2          version is not 1                                found version
-      3          entity width not 1, 2, 4, 8                     width
-      4          sequence width not 1, 2, 4, 8                   width
-      5          checksum not zero                               the PDU's last 16 bits
-      6          declared data short                             end of the data, needed end
-      7          unknown directive                               code
-      8          known directive, not NAK                        code
-      9          scope above 4294967295 in a normal NAK          start, end
-     10          more pairs than fit                             pairs, 8190 (normal) or 4094 (large)
-     11          output buffer short                             length, needed length
-     12          odd count of lent numbers                       count
-     13          source and destination widths differ            source's, destination's
-     14          value does not fit its width                    value, width
-     15          packet too small for a NAK with no pair         none
-     21          not a directive: PDU type 1, file data          none
+     28 00 11 00 01 02 03 08 00 00 00 00 00 00 03 E8 00 00 00 64 00 00 00 C8
 
-   Limits: a PDU has at most 28 + 65535 bytes, a NAK at most 8190 normal or 4094 large pairs. */
+   is read as
+
+     0                        accepted
+     0 1 0 0 0 0 0            a directive, towards the file's sender; all other flags clear
+     17                       bytes of data
+     1 1   1 2   1 3          widths and values: source 1, sequence number 2, destination 3
+     0 1000                   the scope
+     16 24 1                  the request area starts at 16, stops at 24 and holds 1 pair: 100, 200
+     0 0 0 0
+
+   and of its first 20 bytes the answer is 1 20 24 and zeros: 20 bytes are there, and 24 are needed.
+
+   Where a PDU ends. It has P bytes, its header's length and its data's, and the next one starts there:
+
+     cfdp_header_read(bytes, length, answer);
+     P = answer[CFDP_ANSWER_HEADER_LENGTH] + answer[CFDP_ANSWER_DATA_LENGTH];
+
+   The data of a PDU stops at P or, with the CRC flag, two bytes before it, where the checksum stands: CFDP_ANSWER_NAK_STOP is
+   that place, and not P.
+
+   A stream of PDUs is framed by P alone. Read the header, with more bytes for as long as it is refused with 1; wait until P
+   bytes are there; read these P bytes as a PDU; go on at P, whether they were accepted or refused. A header that is refused
+   with 2, 3 or 4 has no P, and where the next PDU starts cannot be known. Do not wait for what the reader of a NAK asks for
+   once it has P bytes: of a PDU of 7 or 8 bytes, which holds no directive, it asks for a ninth (refusal 1), and that byte
+   belongs to the next PDU. */
 #ifndef CFDP_H
 #define CFDP_H
 
@@ -48,8 +56,102 @@
 #include <stddef.h>
 #include <stdint.h>
 
-/* How many numbers an answer has. */
+/* The version of this file: it changes where a name, a place or the length of an answer does. */
+#define CFDP_INTERFACE 2
+
+/* The version in a header, the only one that is read and written. */
+#define CFDP_VERSION 1
+
+/* How many numbers an answer, the shape and the ids of a header have. */
 #define CFDP_ANSWER_LEN 24
+#define CFDP_SHAPE_LEN 10
+#define CFDP_IDS_LEN 3
+
+/* Limits: bytes of a header, of the data and of a PDU; pairs of a NAK. */
+#define CFDP_LEAST_HEADER 7
+#define CFDP_MOST_HEADER 28
+#define CFDP_MOST_DATA 65535
+#define CFDP_MOST_PDU 65563
+#define CFDP_MOST_NORMAL_PAIRS 8190
+#define CFDP_MOST_LARGE_PAIRS 4094
+
+/* What stands at answer[CFDP_ANSWER_NUMBER], and what follows it as answer[CFDP_ANSWER_FIRST] and answer[CFDP_ANSWER_SECOND]. */
+enum {
+    CFDP_ACCEPTED = 0,
+    CFDP_REFUSED_BUFFER_SHORT = 1,      /* bytes that are there, bytes that are needed */
+    CFDP_REFUSED_VERSION = 2,           /* the version, which is not CFDP_VERSION */
+    CFDP_REFUSED_ENTITY_WIDTH = 3,      /* the width, which is not 1, 2, 4 or 8 */
+    CFDP_REFUSED_SEQUENCE_WIDTH = 4,    /* the width, likewise */
+    CFDP_REFUSED_CHECKSUM = 5,          /* the PDU's last 16 bits; the checksum over all of it is not 0 */
+    CFDP_REFUSED_DATA_SHORT = 6,        /* where the declared data stops, where it would have to */
+    CFDP_REFUSED_UNKNOWN_DIRECTIVE = 7, /* its code */
+    CFDP_REFUSED_OTHER_DIRECTIVE = 8,   /* its code: a known directive, and not the one that is read */
+    CFDP_REFUSED_SCOPE = 9,             /* start and end, one of them above 4294967295 in a normal NAK */
+    CFDP_REFUSED_PAIRS = 10,            /* pairs, CFDP_MOST_NORMAL_PAIRS or CFDP_MOST_LARGE_PAIRS, which they exceed */
+    CFDP_REFUSED_OUTPUT_SHORT = 11,     /* bytes that `buf` has, bytes that are needed */
+    CFDP_REFUSED_ODD_COUNT = 12,        /* how many numbers were lent, which are no pairs */
+    CFDP_REFUSED_WIDTHS_DIFFER = 13,    /* the width of the source, that of the destination */
+    CFDP_REFUSED_VALUE = 14,            /* the value, the width that it does not fit */
+    CFDP_REFUSED_PACKET_SMALL = 15,     /* nothing; a NAK with no pair does not fit the packet */
+    CFDP_REFUSED_NOT_A_DIRECTIVE = 21   /* nothing; the PDU type is 1, file data */
+};
+
+/* The places of an answer. */
+enum {
+    CFDP_ANSWER_NUMBER = 0,
+    /* a refusal's values */
+    CFDP_ANSWER_FIRST = 1,
+    CFDP_ANSWER_SECOND = 2,
+    /* of a function that answers one number and no header */
+    CFDP_ANSWER_VALUE = 1,
+    /* HEADER */
+    CFDP_ANSWER_TYPE = 1,
+    CFDP_ANSWER_DIRECTION = 2,
+    CFDP_ANSWER_MODE = 3,
+    CFDP_ANSWER_CRC = 4,
+    CFDP_ANSWER_LARGE = 5,
+    CFDP_ANSWER_CONTROL = 6,
+    CFDP_ANSWER_METADATA = 7,
+    CFDP_ANSWER_DATA_LENGTH = 8,
+    CFDP_ANSWER_SOURCE_WIDTH = 9,
+    CFDP_ANSWER_SOURCE = 10,
+    CFDP_ANSWER_SEQUENCE_WIDTH = 11,
+    CFDP_ANSWER_SEQUENCE = 12,
+    CFDP_ANSWER_DESTINATION_WIDTH = 13,
+    CFDP_ANSWER_DESTINATION = 14,
+    /* behind the HEADER of cfdp_header_read */
+    CFDP_ANSWER_HEADER_LENGTH = 15,
+    /* behind the HEADER of a PDU that was written or finished: its length, P */
+    CFDP_ANSWER_WRITTEN = 15,
+    /* behind the HEADER of cfdp_nak_read */
+    CFDP_ANSWER_NAK_START = 15,
+    CFDP_ANSWER_NAK_END = 16,
+    CFDP_ANSWER_NAK_AREA = 17,
+    CFDP_ANSWER_NAK_STOP = 18,
+    CFDP_ANSWER_NAK_PAIRS = 19,
+    /* behind the HEADER of cfdp_nak_reserve; the length is the P that the NAK will have */
+    CFDP_ANSWER_RESERVED_PAIRS = 15,
+    CFDP_ANSWER_RESERVED_AREA = 16,
+    CFDP_ANSWER_RESERVED_STOP = 17,
+    CFDP_ANSWER_RESERVED_LENGTH = 18
+};
+
+/* The places of a shape: seven flags, three widths. */
+enum {
+    CFDP_SHAPE_TYPE = 0,      /* 0 a directive, 1 file data */
+    CFDP_SHAPE_DIRECTION = 1, /* 0 towards the file's receiver, 1 towards its sender */
+    CFDP_SHAPE_MODE = 2,      /* 0 acknowledged, 1 unacknowledged */
+    CFDP_SHAPE_CRC = 3,       /* 1 where the PDU ends in a checksum */
+    CFDP_SHAPE_LARGE = 4,     /* 1 where offsets and sizes have 8 bytes, 0 where they have 4 */
+    CFDP_SHAPE_CONTROL = 5,   /* 1 where record boundaries are kept */
+    CFDP_SHAPE_METADATA = 6,  /* 1 where segments have metadata */
+    CFDP_SHAPE_SOURCE_WIDTH = 7,
+    CFDP_SHAPE_SEQUENCE_WIDTH = 8,
+    CFDP_SHAPE_DESTINATION_WIDTH = 9
+};
+
+/* The places of ids. */
+enum { CFDP_ID_SOURCE = 0, CFDP_ID_SEQUENCE = 1, CFDP_ID_DESTINATION = 2 };
 
 #ifdef __cplusplus
 extern "C" {
@@ -64,80 +166,88 @@ uint16_t cfdp_checksum(const uint8_t *bytes, size_t bytes_len);
 void cfdp_header_read(const uint8_t *bytes, size_t bytes_len, uint64_t answer[CFDP_ANSWER_LEN]);
 
 /* Judges a header: HEADER; or 13, 3, 4, 14. */
-void cfdp_header_build(const uint8_t shape[10], uint16_t data_length, const uint64_t ids[3], uint64_t answer[CFDP_ANSWER_LEN]);
-
-/* Writes a header to the front of buf: the written length; or 13, 3, 4, 14, 11. */
-void cfdp_header_write(const uint8_t shape[10], uint16_t data_length, const uint64_t ids[3], uint8_t *buf, size_t buf_len,
+void cfdp_header_build(const uint8_t shape[CFDP_SHAPE_LEN], uint16_t data_length, const uint64_t ids[CFDP_IDS_LEN],
                        uint64_t answer[CFDP_ANSWER_LEN]);
 
-/* Verifies that the bytes hold the whole PDU of a header and, with the CRC flag, that its checksum is zero: where its data
-   ends; or 13, 3, 4, 14, 1, 5. */
-void cfdp_header_verify(const uint8_t shape[10], uint16_t data_length, const uint64_t ids[3], const uint8_t *bytes,
-                        size_t bytes_len, uint64_t answer[CFDP_ANSWER_LEN]);
+/* Writes a header to the front of buf: VALUE, the written length; or 13, 3, 4, 14, 11. */
+void cfdp_header_write(const uint8_t shape[CFDP_SHAPE_LEN], uint16_t data_length, const uint64_t ids[CFDP_IDS_LEN],
+                       uint8_t *buf, size_t buf_len, uint64_t answer[CFDP_ANSWER_LEN]);
+
+/* Verifies that the bytes hold the whole PDU of a header and, with the CRC flag, that its checksum is zero: VALUE, where its
+   data stops; or 13, 3, 4, 14, 1, 5. */
+void cfdp_header_verify(const uint8_t shape[CFDP_SHAPE_LEN], uint16_t data_length, const uint64_t ids[CFDP_IDS_LEN],
+                        const uint8_t *bytes, size_t bytes_len, uint64_t answer[CFDP_ANSWER_LEN]);
 
 /* ---- reading a NAK */
 
-/* Reads a NAK at the front of the bytes: HEADER, start and end of scope, where its request area starts, where it (and the
-   data) ends, how many whole pairs it holds; or 1 to 8, 21. The area is bytes + answer[17], of answer[18] - answer[17] bytes. */
+/* Reads a NAK at the front of the bytes, whatever follows it: HEADER, start and end of its scope, where its request area
+   starts, where it stops (and the data with it), how many whole pairs it holds; or 1 to 8, 21. The area reaches from
+   bytes + answer[CFDP_ANSWER_NAK_AREA] up to bytes + answer[CFDP_ANSWER_NAK_STOP]. */
 void cfdp_nak_read(const uint8_t *bytes, size_t bytes_len, uint64_t answer[CFDP_ANSWER_LEN]);
 
 /* The pair of an index in a request area, counted from 0, its numbers of 8 bytes (large) or 4: start and end in pair; false
    and two zeros where the area has no such whole pair. */
 bool cfdp_nak_pair(const uint8_t *area, size_t area_len, bool large, size_t index, uint64_t pair[2]);
 
-/* Copies the whole pairs of a request area, as many as numbers has room for, start and end by turns: how many it copied; the
-   rest of numbers stays as it was. */
+/* Copies the whole pairs of a request area, as many as numbers has room for, start and end by turns: how many pairs it
+   copied; the rest of numbers stays as it was. */
 size_t cfdp_nak_pairs(const uint8_t *area, size_t area_len, bool large, uint64_t *numbers, size_t numbers_len);
 
 /* ---- writing a NAK: direction and length are worked out, and handed back in the header; start above end is accepted */
 
 /* Writes a NAK with no list of pairs, the large file flag as given: HEADER, the written length; or 13, 3, 4, 14, 21, 9,
    11. */
-void cfdp_nak_write(const uint8_t shape[10], const uint64_t ids[3], uint64_t start, uint64_t end, uint8_t *buf,
-                    size_t buf_len, uint64_t answer[CFDP_ANSWER_LEN]);
+void cfdp_nak_write(const uint8_t shape[CFDP_SHAPE_LEN], const uint64_t ids[CFDP_IDS_LEN], uint64_t start, uint64_t end,
+                    uint8_t *buf, size_t buf_len, uint64_t answer[CFDP_ANSWER_LEN]);
 
 /* Writes a NAK with normal pairs, start and end by turns, which clear the large file flag, even none of them: HEADER, the
    written length; or 13, 3, 4, 14, 21, 12, 9, 10, 11. */
-void cfdp_nak_write_normal(const uint8_t shape[10], const uint64_t ids[3], uint64_t start, uint64_t end,
-                           const uint32_t *numbers, size_t count, uint8_t *buf, size_t buf_len, uint64_t answer[CFDP_ANSWER_LEN]);
+void cfdp_nak_write_normal(const uint8_t shape[CFDP_SHAPE_LEN], const uint64_t ids[CFDP_IDS_LEN], uint64_t start,
+                           uint64_t end, const uint32_t *numbers, size_t count, uint8_t *buf, size_t buf_len,
+                           uint64_t answer[CFDP_ANSWER_LEN]);
 
 /* Writes a NAK with large pairs, which set the flag, likewise. */
-void cfdp_nak_write_large(const uint8_t shape[10], const uint64_t ids[3], uint64_t start, uint64_t end,
-                          const uint64_t *numbers, size_t count, uint8_t *buf, size_t buf_len, uint64_t answer[CFDP_ANSWER_LEN]);
+void cfdp_nak_write_large(const uint8_t shape[CFDP_SHAPE_LEN], const uint64_t ids[CFDP_IDS_LEN], uint64_t start,
+                          uint64_t end, const uint64_t *numbers, size_t count, uint8_t *buf, size_t buf_len,
+                          uint64_t answer[CFDP_ANSWER_LEN]);
 
 /* ---- reserving room for pairs, and finishing the NAK around them */
 
 /* Reserves room for that many pairs in buf and changes no byte, the large file flag as given: HEADER, the pairs, where the
-   request area starts, where it ends, the length that the NAK will have; or 13, 3, 4, 14, 21, 10, 11. The caller stores the
-   pairs' numbers big-endian, 8 bytes each with the flag, else 4, from buf + answer[16] up to buf + answer[17]. */
-void cfdp_nak_reserve(const uint8_t shape[10], const uint64_t ids[3], size_t pairs, const uint8_t *buf, size_t buf_len,
-                      uint64_t answer[CFDP_ANSWER_LEN]);
+   request area starts, where it stops, the length that the NAK will have; or 13, 3, 4, 14, 21, 10, 11. The caller stores the
+   pairs' numbers big-endian, 8 bytes each with the flag, else 4, from buf + answer[CFDP_ANSWER_RESERVED_AREA] up to
+   buf + answer[CFDP_ANSWER_RESERVED_STOP]. */
+void cfdp_nak_reserve(const uint8_t shape[CFDP_SHAPE_LEN], const uint64_t ids[CFDP_IDS_LEN], size_t pairs,
+                      const uint8_t *buf, size_t buf_len, uint64_t answer[CFDP_ANSWER_LEN]);
 
 /* Writes header, directive, scope and checksum around the pairs that the caller stored, given what reserving was given, which
    is judged anew: HEADER, the written length; or 13, 3, 4, 14, 21, 10, 9, 11. */
-void cfdp_nak_finish(const uint8_t shape[10], const uint64_t ids[3], size_t pairs, uint64_t start, uint64_t end,
-                     uint8_t *buf, size_t buf_len, uint64_t answer[CFDP_ANSWER_LEN]);
+void cfdp_nak_finish(const uint8_t shape[CFDP_SHAPE_LEN], const uint64_t ids[CFDP_IDS_LEN], size_t pairs, uint64_t start,
+                     uint64_t end, uint8_t *buf, size_t buf_len, uint64_t answer[CFDP_ANSWER_LEN]);
 
-/* How many pairs a NAK has at most in a packet of that many bytes, and at most 8190 or 4094, by the large file flag: the count;
-   or 13, 3, 4, 14, 21, 15. Into a buffer of that size a NAK of so many pairs of the flag's width is written, and one of more is
-   refused. */
-void cfdp_nak_most(const uint8_t shape[10], const uint64_t ids[3], size_t packet, uint64_t answer[CFDP_ANSWER_LEN]);
+/* How many pairs a NAK has at most in a packet of that many bytes, and at most CFDP_MOST_NORMAL_PAIRS or
+   CFDP_MOST_LARGE_PAIRS, by the large file flag: VALUE, the count; or 13, 3, 4, 14, 21, 15. Into a buffer of that size a NAK
+   of so many pairs of the flag's width is written, and one of more is refused. */
+void cfdp_nak_most(const uint8_t shape[CFDP_SHAPE_LEN], const uint64_t ids[CFDP_IDS_LEN], size_t packet,
+                   uint64_t answer[CFDP_ANSWER_LEN]);
 
 /* ---- comparing: nothing is written */
 
-/* Compares the NAK at the front of the bytes with the one that cfdp_nak_write would write: 1 where all header fields
+/* Compares the NAK at the front of the bytes with the one that cfdp_nak_write would write: VALUE, 1 where all header fields
    (identifiers by number, not width), the data length and the scope are equal and the request area is exactly the pairs, else
    0; or the reader's refusals, and then the writer's but 11. */
-void cfdp_nak_compare(const uint8_t *bytes, size_t bytes_len, const uint8_t shape[10], const uint64_t ids[3],
-                      uint64_t start, uint64_t end, uint64_t answer[CFDP_ANSWER_LEN]);
+void cfdp_nak_compare(const uint8_t *bytes, size_t bytes_len, const uint8_t shape[CFDP_SHAPE_LEN],
+                      const uint64_t ids[CFDP_IDS_LEN], uint64_t start, uint64_t end, uint64_t answer[CFDP_ANSWER_LEN]);
 
 /* The same with the one that cfdp_nak_write_normal would write. */
-void cfdp_nak_compare_normal(const uint8_t *bytes, size_t bytes_len, const uint8_t shape[10], const uint64_t ids[3],
-                             uint64_t start, uint64_t end, const uint32_t *numbers, size_t count, uint64_t answer[CFDP_ANSWER_LEN]);
+void cfdp_nak_compare_normal(const uint8_t *bytes, size_t bytes_len, const uint8_t shape[CFDP_SHAPE_LEN],
+                             const uint64_t ids[CFDP_IDS_LEN], uint64_t start, uint64_t end, const uint32_t *numbers,
+                             size_t count, uint64_t answer[CFDP_ANSWER_LEN]);
 
 /* The same with the one that cfdp_nak_write_large would write. */
-void cfdp_nak_compare_large(const uint8_t *bytes, size_t bytes_len, const uint8_t shape[10], const uint64_t ids[3],
-                            uint64_t start, uint64_t end, const uint64_t *numbers, size_t count, uint64_t answer[CFDP_ANSWER_LEN]);
+void cfdp_nak_compare_large(const uint8_t *bytes, size_t bytes_len, const uint8_t shape[CFDP_SHAPE_LEN],
+                            const uint64_t ids[CFDP_IDS_LEN], uint64_t start, uint64_t end, const uint64_t *numbers,
+                            size_t count, uint64_t answer[CFDP_ANSWER_LEN]);
 
 #ifdef __cplusplus
 }

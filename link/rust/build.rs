@@ -1,4 +1,4 @@
-// Links the archive that `rt staticlib cfdp` wrote.
+// Links the archive that link/archive.sh made.
 fn main() {
     let archives = concat!(env!("CARGO_MANIFEST_DIR"), "/../../target/staticlib");
     println!("cargo:rustc-link-search=native={archives}");
