@@ -1,4 +1,4 @@
-//! Links libcfdp.a, from the folder that CFDP_LIB names or from where `rt staticlib` writes it.
+//! Links libcfdp.a, from the folder that CFDP_LIB names or from where link/archive.sh makes it.
 use std::env::var;
 
 fn main() {
