@@ -1,5 +1,5 @@
-/* The CFDP header and NAK codec (CCSDS 727.0-B-5) for C and C++: the functions of libcfdp.a, which `rt staticlib cfdp` proves
-   and writes to target/staticlib/.
+/* The CFDP header and NAK codec (CCSDS 727.0-B-5) for C and C++: the functions of libcfdp.a, which link/archive.sh proves
+   and makes for this machine.
 
    Every function gives one proved answer to every value of its parameters. Nothing allocates or panics, and nothing is read
    or written outside the memory that is lent.
@@ -19,8 +19,8 @@
    A NAK travels from the destination to the source, and its direction bit, 1, says so: towards the file's sender.
 
    An answer comes out as CFDP_ANSWER_LEN numbers, all of them written by every call: CFDP_ACCEPTED and what was accepted, or
-   the number of the refusal and its values; the rest is 0. HEADER below is the 14 numbers of a header, from
-   CFDP_ANSWER_TYPE to CFDP_ANSWER_DESTINATION. The NAK
+   the number of the refusal and its values; the rest is 0. Below, HEADER is the 14 numbers of a header, from
+   CFDP_ANSWER_TYPE to CFDP_ANSWER_DESTINATION, and VALUE is the number at CFDP_ANSWER_VALUE. The NAK
 
      28 00 11 00 01 02 03 08 00 00 00 00 00 00 03 E8 00 00 00 64 00 00 00 C8
 
@@ -47,8 +47,8 @@
    A stream of PDUs is framed by P alone. Read the header, with more bytes for as long as it is refused with 1; wait until P
    bytes are there; read these P bytes as a PDU; go on at P, whether they were accepted or refused. A header that is refused
    with 2, 3 or 4 has no P, and where the next PDU starts cannot be known. Do not wait for what the reader of a NAK asks for
-   once it has P bytes: of a PDU of 7 or 8 bytes, which holds no directive, it asks for a ninth (refusal 1), and that byte
-   belongs to the next PDU. */
+   once it has P bytes: of a PDU of 7 or 8 bytes, which is too short for a NAK, it asks for a ninth (refusal 1), and that
+   byte belongs to the next PDU. */
 #ifndef CFDP_H
 #define CFDP_H
 
