@@ -11,6 +11,7 @@ use header::PduType;
 use header::SegmentMetadataFlag;
 use header::SegmentationControl;
 use header::TransmissionMode;
+use header::pdu::WriteResult;
 use libc::STDOUT_FILENO;
 use nak::compare;
 use nak::compare::CompareResult;
@@ -19,7 +20,6 @@ use nak::count::CountResult;
 use nak::reserve::ReserveResult;
 use nak::reserve::ReservedNak;
 use nak::write;
-use nak::write::WriteResult;
 
 // N's pair, 100 and 200, as the caller of a reserved NAK stores it.
 const PAIR: u64 = 0x64000000C8;

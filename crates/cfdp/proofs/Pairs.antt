@@ -16,7 +16,8 @@ use Rattle.header.specs.Flags.{fileIf}
 use Rattle.nak.specs.declared.requests.RequestCursor.{RequestCursor}
 use Rattle.nak.specs.declared.requests.NextRequest.{NextRequest}
 use Rattle.nak.specs.declared.requests.NextRequest.the-variants.{Pair, End}
-use Rattle.nak.specs.Nak.{offsetWidth, pairSize}
+use Rattle.header.specs.Size.{sizeWidth}
+use Rattle.nak.specs.Nak.{pairSize}
 use Rattle.nak.specs.Requests.{pairsFrom, pairsOf, nextRequest}
 use Rattle.nak.specs.Cases.{flat}
 use Rattle.fields.proofs.Parts.{number-part}
@@ -58,7 +59,7 @@ module _ (large : Bool) (a : List ℕ) (i : ℕ) where
 
     -- the bytes of one offset
     abbrev width : ℕ
-    width = offsetWidth (fileIf large)
+    width = sizeWidth (fileIf large)
 
     -- the pair's bytes
     abbrev part : List ℕ

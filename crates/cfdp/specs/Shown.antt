@@ -10,7 +10,7 @@ use Rattle.header.specs.Flags.{pduTypeBit, directionBit, modeBit, crcBit, fileB
 use Rattle.header.specs.Header.{headerLength, pduLength}
 use Rattle.nak.specs.declared.Nak.{Nak}
 use Rattle.nak.specs.declared.reserve.ReservedNak.{ReservedNak}
-use Rattle.nak.specs.declared.write.NakWritten.{NakWritten}
+use Rattle.header.specs.declared.pdu.PduWritten.{PduWritten}
 
 -- the first n of the numbers, and 0 where there are fewer
 abbrev pub padded : ℕ → List ℕ → List ℕ
@@ -67,7 +67,7 @@ abbrev pub nakNumbers : Nak → List ℕ
 nakNumbers n = headerNumbers (n .header) ++ (n .start ∷ n .end ∷ n .area ∷ n .stop ∷ n .count ∷ [])
 
 -- a NAK that was written: the header handed back, and the written length
-abbrev pub writtenNumbers : NakWritten → List ℕ
+abbrev pub writtenNumbers : PduWritten → List ℕ
 writtenNumbers w = headerNumbers (w .header) ++ (w .length ∷ [])
 
 -- a NAK that was reserved: the header handed back, its pairs, where its request area starts and stops, the length that it will have

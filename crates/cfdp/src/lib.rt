@@ -3,7 +3,7 @@
 ghost use mathlib.Core.Path.{_≡_};
 ghost use mathlib.Core.List.{[], _∷_, _++_};
 ghost use Rattle.header.specs.Answers.{headerAnswer, lengthAnswer};
-ghost use Rattle.nak.specs.Writing.{writeAnswer};
+ghost use Rattle.header.specs.Pdu.{writeAnswer};
 ghost use Rattle.cfdp.specs.Given.{headerFrom};
 ghost use Rattle.cfdp.specs.Shown.{padded, answerSize, shown, refusalShown, headerNumbers, oneNumber, writtenNumbers};
 use fields::Refusal;
@@ -19,7 +19,7 @@ use header::PduType;
 use header::SegmentMetadataFlag;
 use header::SegmentationControl;
 use header::TransmissionMode;
-use nak::write::WriteResult;
+use header::pdu::WriteResult;
 
 pub mod compare;
 pub mod headers;

@@ -11,7 +11,7 @@ use lib.ListN.{length, getD, drop}
 use lib.Seq.{sets, sets-eq}
 use borrow.Author.Tests.{eqb-true}
 use Rattle.fields.specs.Choice.{if_then_else_}
-use Rattle.fields.specs.Answer.{Answer, accepted, short, refused, told, andThen, Test, firstOf, leaves}
+use Rattle.fields.specs.Answer.{Answer, accepted, short, refused, told, andThen, Test, firstOf, leaves, allOf}
 
 -- every test is false
 abbrev pub Passed : List Test → Type 0
@@ -56,11 +56,6 @@ passed-on (t ∷ ts) us a p = rw (p .0) (passed-on ts us a (p .1))
 pub all-passed : {A : Type 0} (ts : List Test) (a : A) → Passed ts → firstOf ts a ≡ accepted a
 all-passed [] a p = refl
 all-passed (t ∷ ts) a p = rw (p .0) (all-passed ts a (p .1))
-
--- and where they stand between others, they may be left out
-pub passed-between : {A : Type 0} (ts us vs : List Test) (a : A) → Passed us → firstOf ((ts ++ us) ++ vs) a ≡ firstOf (ts ++ vs) a
-passed-between [] us vs a p = passed-on us vs a p
-passed-between {A} (t ∷ ts) us vs a p = ap (λ (o : Answer A). if t .holds then refused (t .says) else o) (passed-between ts us vs a p)
 
 -- none of the tests says a refusal of that number
 abbrev pub NoneSays : ℕ → List Test → Type 0
@@ -154,15 +149,16 @@ module _ {A B : Type 0} (ns : List ℕ) where
       go true = refl
       go false = refl
 
--- a refusal of tests that stand behind others: those come first
-pub refused-behind : {A B C : Type 0} (ns : List ℕ) (ts us : List Test) (a : A) (b : B) (c : C) → told ns ≡ firstOf us a → andThen (firstOf ts b) (λ _. told ns) ≡ firstOf (ts ++ us) c
-refused-behind ns [] us a b c e = rw (append-nil us) at (refused-on ns us [] a c e)
-refused-behind {A} {B} {C} ns (t ∷ ts) us a b c e = go (t .holds) (refused-behind ns ts us a b c e)
-  where
-    go : (d : Bool) → andThen (firstOf ts b) (λ _. told ns) ≡ firstOf (ts ++ us) c
-        → andThen (if d then refused (t .says) else firstOf ts b) (λ _. told ns) ≡ (if d then refused (t .says) else firstOf (ts ++ us) c)
-    go true r = refl
-    go false r = r
+-- a judgement in parts: tests behind others that were passed decide
+pub judged-passed : (ts : List Test) → accepted tt ≡ allOf ts → Passed ts
+judged-passed ts e = passed ts tt tt e .0
+
+module _ {A : Type 0} (ts us : List Test) (p : Passed ts) (a : A) where
+  pub refused-after : {B : Type 0} (b : B) (ns : List ℕ) → told ns ≡ firstOf us b → told ns ≡ firstOf (ts ++ us) a
+  refused-after b ns e = rw (append-nil us) at (refused-on ns us [] b a e) ∙ sym (passed-on ts us a p)
+
+  pub passed-after : Passed us → accepted a ≡ firstOf (ts ++ us) a
+  passed-after q = sym (all-passed us a q) ∙ sym (passed-on ts us a p)
 
 -- ---- one answer behind another
 
@@ -200,12 +196,6 @@ then-tests {A} {B} (t ∷ ts) us a b f e = go (t .holds) (then-tests ts us a b f
 pub told-leaves : {A : Type 0} (ns : List ℕ) (o : Answer A) (bytes : A → List ℕ) (s : List ℕ) → told ns ≡ o → s ≡ leaves o bytes s
 told-leaves {A} ns o bytes s e =
     sym (told-either (λ (x : Answer A). leaves x bytes s) s ns (λ l n. refl) (λ ms. refl)) ∙ ap (λ (x : Answer A). leaves x bytes s) e
-
--- nor does a refusal behind whatever comes first
-pub behind-leaves : {A B : Type 0} (o : Answer A) (ns : List ℕ) (bytes : B → List ℕ) (s : List ℕ) → s ≡ leaves (andThen o (λ _. told ns)) bytes s
-behind-leaves (accepted a) ns bytes s = told-leaves ns (told ns) bytes s refl
-behind-leaves (short l n) ns bytes s = refl
-behind-leaves (refused ms) ns bytes s = refl
 
 -- an accepted one has its bytes in front
 module _ {A : Type 0} (o : Answer A) (bytes : A → List ℕ) (s : List ℕ) (a : A) (e : accepted a ≡ o) where

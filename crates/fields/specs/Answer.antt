@@ -35,6 +35,10 @@ abbrev pub firstOf : {A : Type 0} → List Test → A → Answer A
 firstOf [] a = accepted a
 firstOf (t ∷ ts) a = if t .holds then refused (t .says) else firstOf ts a
 
+-- a judgement that hands back nothing: whether none of the tests holds
+abbrev pub allOf : List Test → Answer (Unit {0})
+allOf ts = firstOf ts tt
+
 -- the lent buffer at exit of a write: the bytes of what was accepted in front, the rest as it was; a refusal changes no byte
 abbrev pub leaves : {A : Type 0} → Answer A → (A → List ℕ) → List ℕ → List ℕ
 leaves (accepted a) bytes s = bytes a ++ drop (length (bytes a)) s

@@ -15,10 +15,10 @@ pub enum Refusal {
     // 5: checksum not zero; the PDU's last 16 bits.
     Checksum(u16),
     // 6: declared data short; where the data ends, and where it would have to.
-    DataFieldTooSmall { end: usize, expected: usize },
+    DataFieldTooSmall { stop: usize, expected: usize },
     // 7: unknown directive.
     InvalidDirectiveType(u8),
-    // 8: known directive, not NAK.
+    // 8: known directive, not the one that is read.
     WrongDirectiveType(u8),
     // 9: scope above 2^32 - 1 in a normal NAK.
     InvalidStartOrEndOfScope { start: u64, end: u64 },
@@ -90,7 +90,7 @@ impl Refusal {
             Refusal::InvalidEntityLen(width) => one(3, width as u64),
             Refusal::InvalidTransactionSeqNumLen(width) => one(4, width as u64),
             Refusal::Checksum(last) => one(5, last as u64),
-            Refusal::DataFieldTooSmall { end, expected } => two(6, end as u64, expected as u64),
+            Refusal::DataFieldTooSmall { stop, expected } => two(6, stop as u64, expected as u64),
             Refusal::InvalidDirectiveType(code) => one(7, code as u64),
             Refusal::WrongDirectiveType(code) => one(8, code as u64),
             Refusal::InvalidStartOrEndOfScope { start, end } => two(9, start, end),

@@ -9,7 +9,7 @@ use native.Mathlib.Nat.{le-refl}
 use lib.Dec.{ltb, lit<}
 use lib.ListN.{length, getD, take, drop}
 use lib.Seq.{getD-take}
-use borrow.Author.Tests.{not-false}
+use borrow.Author.Tests.{not-false, le-ltb}
 use Rattle.fields.specs.Choice.{if_then_else_}
 use Rattle.fields.specs.Width.{isWidth}
 use Rattle.fields.specs.BigEndian.{Bytes}
@@ -26,18 +26,24 @@ use Rattle.header.specs.declared.HeaderResult.{HeaderResult}
 use Rattle.header.specs.declared.HeaderResult.the-variants.{Header, Refused}
 use Rattle.header.specs.declared.LengthResult.{LengthResult}
 use Rattle.header.specs.declared.LengthResult.the-variants.{Length, Refused as NoLength}
+use Rattle.header.specs.declared.Judged.{Judged}
+use Rattle.header.specs.declared.Judged.the-variants.{Passed as AllPassed, Refused as NotPassed}
 use Rattle.header.specs.declared.directive.DirectiveResult.{DirectiveResult}
 use Rattle.header.specs.declared.directive.DirectiveResult.the-variants.{Directive, Refused as NoDirective}
-use Rattle.header.specs.Answers.{headerAnswer, lengthAnswer, directiveAnswer}
+use Rattle.header.specs.declared.pdu.WriteResult.{WriteResult}
+use Rattle.header.specs.declared.pdu.WriteResult.the-variants.{Written, Refused as NotWritten}
+use Rattle.header.specs.Pdu.{writeAnswer}
+use Rattle.header.specs.Answers.{headerAnswer, lengthAnswer, judgedAnswer, directiveAnswer}
 use Rattle.header.specs.Header.{headerLength, dataEnd, headerBytes}
 use Rattle.header.specs.Judging.{recordTests, judging}
 use Rattle.header.specs.Reading.{entityWidthIn, sequenceWidthIn, headerLengthIn, headerIn, readingHeader}
-use Rattle.header.specs.Directive.{directiveBytes, verifyingDirective, readingDirectivePdu}
-use Rattle.header.specs.Writing.{outputTests, writingHeader, headerMemory}
-use Rattle.header.specs.Demands.{HeaderReadsBack, MemoryReadsBack, ReadIsSound, NamedNeedIsEnough, HeaderDemand3, DirectiveDemand3, OneHeaderResult, OneLengthResult, OneDirectiveResult}
+use Rattle.header.specs.Directive.{readingOwn}
+use Rattle.header.specs.Writing.{noRoom, writingHeader, headerMemory}
+use Rattle.header.specs.Demands.{HeaderReadsBack, MemoryReadsBack, ReadIsSound, NamedNeedIsEnough, HeaderDemand3, DirectiveDemand3, OneHeaderResult, OneLengthResult, OneJudged, OneDirectiveResult, OneWriteResult}
 use Rattle.header.proofs.Judging.{sound, all-right}
+use Rattle.header.proofs.Reading.{header-two}
 use Rattle.header.proofs.Writing.{enough, written-passed}
-use Rattle.header.proofs.Directives.{pduOf, on, directive-two}
+use Rattle.header.proofs.Directives.{own-four}
 use Rattle.header.proofs.RoundTrip.{reads-back}
 
 -- ---- one answer
@@ -56,6 +62,13 @@ length-result-back (NoLength r) = told-back Length NoLength r
 pub one-length-result : OneLengthResult
 one-length-result = one-to-one lengthAnswer (answerBack Length NoLength) length-result-back
 
+judged-back : (r : Judged) → answerBack (λ _. AllPassed) NotPassed (judgedAnswer r) ≡ r
+judged-back AllPassed = refl
+judged-back (NotPassed r) = told-back (λ _. AllPassed) NotPassed r
+
+pub one-judged : OneJudged
+one-judged = one-to-one judgedAnswer (answerBack (λ _. AllPassed) NotPassed) judged-back
+
 directive-back : (r : DirectiveResult) → answerBack Directive NoDirective (directiveAnswer r) ≡ r
 directive-back (Directive d) = refl
 directive-back (NoDirective r) = told-back Directive NoDirective r
@@ -63,23 +76,20 @@ directive-back (NoDirective r) = told-back Directive NoDirective r
 pub one-directive-result : OneDirectiveResult
 one-directive-result = one-to-one directiveAnswer (answerBack Directive NoDirective) directive-back
 
--- ---- demand 3
+write-back : (r : WriteResult) → answerBack Written NotWritten (writeAnswer r) ≡ r
+write-back (Written w) = refl
+write-back (NotWritten r) = told-back Written NotWritten r
 
-pub header-two : AtMost readingHeader 2
-unfolding readingHeader
-header-two = λ _ _. tt
+pub one-write-result : OneWriteResult
+one-write-result = one-to-one writeAnswer (answerBack Written NotWritten) write-back
+
+-- ---- demand 3
 
 pub header-demand3 : HeaderDemand3
 header-demand3 = demand3 (run readingHeader) 2 readingHeader header-two (λ s. refl)
 
-directive-four : AtMost readingDirectivePdu 4
-unfolding readingDirectivePdu verifyingDirective
-directive-four =
-    at-most-bind readingHeader on 2 2 header-two
-    (λ h. at-most-bind (verifyingDirective h) (λ end. accept (pduOf h end)) 2 0 (at-most-bind (directiveBytes h) (λ _. accept (dataEnd h)) 2 0 (directive-two h) (λ _. tt)) (λ _. tt))
-
 pub directive-demand3 : DirectiveDemand3
-directive-demand3 = demand3 (run readingDirectivePdu) 4 readingDirectivePdu directive-four (λ s. refl)
+directive-demand3 own = demand3 (run (readingOwn own)) 4 (readingOwn own) (own-four own) (λ s. refl)
 
 -- ---- demand 2: what is written reads back
 
@@ -109,17 +119,17 @@ unfolding recordTests
 no-eleven h = (λ e. omega arith, (λ e. omega arith, (λ e. omega arith, (λ e. omega arith, (λ e. omega arith, tt)))))
 
 pub named-need-is-enough : NamedNeedIsEnough
-unfolding writingHeader outputTests
+unfolding writingHeader
 named-need-is-enough h room found need e = go (ltb room (headerLength h)) (p .1)
   where
-    p : Passed (recordTests h) × (firstOf (outputTests h room) (headerLength h) ≡ refused (11 ∷ found ∷ need ∷ []))
-    p = said-behind 11 (found ∷ need ∷ []) (recordTests h) (outputTests h room) (headerLength h) (no-eleven h) e
+    p : Passed (recordTests h) × (firstOf (noRoom room (headerLength h) ∷ []) (headerLength h) ≡ refused (11 ∷ found ∷ need ∷ []))
+    p = said-behind 11 (found ∷ need ∷ []) (recordTests h) (noRoom room (headerLength h) ∷ []) (headerLength h) (no-eleven h) e
 
     go : (c : Bool) → _≡_ {A = Answer ℕ} (if c then refused (11 ∷ room ∷ headerLength h ∷ []) else accepted (headerLength h)) (refused (11 ∷ found ∷ need ∷ [])) → (found ≡ room) × (writingHeader h need ≡ accepted need)
     go true d =
         let f : found ≡ room = cc in
         let n : need ≡ headerLength h = cc in
-        (f, rw n (sym (enough h (p .0) (headerLength h) (le-refl (headerLength h)))))
+        (f, rw n (sym (enough h (p .0) (headerLength h) (headerLength h) refl (le-ltb _ _ (le-refl (headerLength h)), tt))))
     go false d = let z : _≡_ {A = ℕ} 0 1 = cc in absurd (omega arith)
 
 -- ---- demand 2: what was read is sound
@@ -128,7 +138,7 @@ named-need-is-enough h room found need e = go (ltb room (headerLength h)) (p .1)
 in-bytes : (a : List ℕ) → Bytes a → isWidth (entityWidthIn a) ≡ true → isWidth (sequenceWidthIn a) ≡ true → accepted (headerIn a) ≡ judging (headerIn a)
 unfolding headerIn
 in-bytes a b we wq =
-    all-right (headerIn a) we wq (lt-fits _ _ (number-lt a _ _ b)) (lt-fits _ _ (number-lt a _ _ b)) (lt-fits _ _ (number-lt a _ _ b))
+    all-right (headerIn a) (rw we, (rw wq, tt)) (lt-fits _ _ (number-lt a _ _ b)) (lt-fits _ _ (number-lt a _ _ b)) (lt-fits _ _ (number-lt a _ _ b))
 
 pub read-is-sound : ReadIsSound
 unfolding readingHeader

@@ -7,50 +7,60 @@ use mathlib.Core.List.{List, [], _∷_, _++_}
 use borrow.Author.Tests.{eq-eqb, ne-eqb, not-false}
 use Rattle.fields.specs.declared.field.UnsignedByteField.{UnsignedByteField}
 use Rattle.fields.specs.Width.{isWidth, fitsField}
-use Rattle.fields.specs.Answer.{Answer, accepted, told, Test, firstOf}
+use Rattle.fields.specs.Answer.{Answer, accepted, told, andThen, Test, firstOf, allOf}
 use Rattle.fields.proofs.Width.{width-small, fits-lt}
-use Rattle.fields.proofs.Judging.{Passed, passed, passed-on, refused-on}
+use Rattle.fields.proofs.Judging.{Passed, passed, refused-on, told-on, told-is-refused}
 use Rattle.header.specs.declared.PduHeader.{PduHeader}
 use Rattle.header.specs.declared.flags.Direction.{Direction}
 use Rattle.header.specs.declared.flags.LargeFileFlag.{LargeFileFlag}
 use Rattle.header.specs.Header.{sourceId, destId, withDirection, withFileFlag, withLength}
-use Rattle.header.specs.Judging.{widthsDiffer, recordTests, judging, joining, building, Sound}
+use Rattle.header.specs.Judging.{tooLarge, widthTests, recordTests, judging, joining, building, Sound}
+
+-- ---- the two widths
+
+module _ (entity sequence : ℕ) where
+  pub bad-entity : isWidth entity ≡ false → told (3 ∷ entity ∷ []) ≡ allOf (widthTests entity sequence)
+  bad-entity w = rw (told-is-refused 3 _ refl, w)
+
+  module _ (we : isWidth entity ≡ true) where
+    pub bad-sequence : isWidth sequence ≡ false → told (4 ∷ sequence ∷ []) ≡ allOf (widthTests entity sequence)
+    bad-sequence w = rw (told-is-refused 4 _ refl, we, w)
+
+    pub both-widths : isWidth sequence ≡ true → accepted tt ≡ allOf (widthTests entity sequence)
+    both-widths w = rw (we, w)
+
+-- ---- the record
 
 module _ (h : PduHeader) where
-  pub bad-entity : isWidth (h .width) ≡ false → told (3 ∷ h .width ∷ []) ≡ judging h
-  unfolding told judging recordTests
-  bad-entity w = rw w
+  pub bad-widths : (ns : List ℕ) → told ns ≡ allOf (widthTests (h .width) (h .sequence .0 .width)) → told ns ≡ judging h
+  unfolding judging recordTests
+  bad-widths ns e = refused-on ns (widthTests (h .width) (h .sequence .0 .width)) (tooLarge (sourceId h) ∷ tooLarge (h .sequence .0) ∷ tooLarge (destId h) ∷ []) tt h e
 
-  module _ (entity : isWidth (h .width) ≡ true) where
-    pub bad-sequence : isWidth (h .sequence .0 .width) ≡ false → told (4 ∷ h .sequence .0 .width ∷ []) ≡ judging h
-    unfolding told judging recordTests
-    bad-sequence w = rw (entity, w)
+  module _ (w : Passed (widthTests (h .width) (h .sequence .0 .width))) where
+    pub large-source : fitsField (sourceId h) ≡ false → told (14 ∷ h .source .0 ∷ h .width ∷ []) ≡ judging h
+    unfolding judging recordTests
+    large-source f = rw (told-is-refused 14 _ refl, w .0, w .1 .0, f)
 
-    module _ (sequence : isWidth (h .sequence .0 .width) ≡ true) where
-      pub large-source : fitsField (sourceId h) ≡ false → told (14 ∷ h .source .0 ∷ h .width ∷ []) ≡ judging h
-      unfolding told judging recordTests
-      large-source f = rw (entity, sequence, f)
+    module _ (source-fits : fitsField (sourceId h) ≡ true) where
+      pub large-sequence : fitsField (h .sequence .0) ≡ false → told (14 ∷ h .sequence .0 .value ∷ h .sequence .0 .width ∷ []) ≡ judging h
+      unfolding judging recordTests
+      large-sequence f = rw (told-is-refused 14 _ refl, w .0, w .1 .0, source-fits, f)
 
-      module _ (source-fits : fitsField (sourceId h) ≡ true) where
-        pub large-sequence : fitsField (h .sequence .0) ≡ false → told (14 ∷ h .sequence .0 .value ∷ h .sequence .0 .width ∷ []) ≡ judging h
-        unfolding told judging recordTests
-        large-sequence f = rw (entity, sequence, source-fits, f)
+      module _ (sequence-fits : fitsField (h .sequence .0) ≡ true) where
+        pub large-destination : fitsField (destId h) ≡ false → told (14 ∷ h .destination .0 ∷ h .width ∷ []) ≡ judging h
+        unfolding judging recordTests
+        large-destination f = rw (told-is-refused 14 _ refl, w .0, w .1 .0, source-fits, sequence-fits, f)
 
-        module _ (sequence-fits : fitsField (h .sequence .0) ≡ true) where
-          pub large-destination : fitsField (destId h) ≡ false → told (14 ∷ h .destination .0 ∷ h .width ∷ []) ≡ judging h
-          unfolding told judging recordTests
-          large-destination f = rw (entity, sequence, source-fits, sequence-fits, f)
-
-          pub all-right : fitsField (destId h) ≡ true → accepted h ≡ judging h
-          unfolding judging recordTests
-          all-right f = rw (entity, sequence, source-fits, sequence-fits, f)
+        pub all-right : fitsField (destId h) ≡ true → accepted h ≡ judging h
+        unfolding judging recordTests
+        all-right f = rw (w .0, w .1 .0, source-fits, sequence-fits, f)
 
 -- ---- two identifiers that have a width each
 
 module _ (source destination : UnsignedByteField) (h : PduHeader) where
   pub widths-differ : (source .width ≡ destination .width → ⊥) → told (13 ∷ source .width ∷ destination .width ∷ []) ≡ joining source destination h
-  unfolding told joining
-  widths-differ n = rw (ne-eqb _ _ n)
+  unfolding joining
+  widths-differ n = rw (told-is-refused 13 _ refl, ne-eqb _ _ n)
 
   pub widths-agree : source .width ≡ destination .width → accepted h ≡ joining source destination h
   unfolding joining
@@ -58,14 +68,12 @@ module _ (source destination : UnsignedByteField) (h : PduHeader) where
 
   -- what is refused for its widths is not built, and behind widths that agree the record's judgement decides
   pub refused-building : (ns : List ℕ) → told ns ≡ joining source destination h → told ns ≡ building source destination h
-  unfolding joining building
-  refused-building ns e = refused-on ns (widthsDiffer (source .width) (destination .width) ∷ []) (recordTests h) h h e
+  unfolding building
+  refused-building ns e = sym (told-on ns judging) ∙ ap (λ (o : Answer PduHeader). andThen o judging) e
 
   pub joined-building : (k : PduHeader) → accepted k ≡ joining source destination h → judging k ≡ building source destination h
-  unfolding joining judging building
-  joined-building k e =
-      let p = passed (widthsDiffer (source .width) (destination .width) ∷ []) k h e in
-      ap (λ (x : PduHeader). firstOf (recordTests x) x) (p .1) ∙ sym (passed-on (widthsDiffer (source .width) (destination .width) ∷ []) (recordTests h) h (p .0))
+  unfolding building
+  joined-building k e = ap (λ (o : Answer PduHeader). andThen o judging) e
 
 -- ---- for those behind the judgement
 

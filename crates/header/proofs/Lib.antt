@@ -4,7 +4,11 @@ pub mod Judging
 pub mod Reading
 pub mod Writing
 pub mod Verifying
+pub mod Codes
 pub mod Directives
+pub mod Pdus
+pub mod PdusBack
+pub mod Sizes
 pub mod Comparing
 pub mod RoundTrip
 pub mod Demands

@@ -13,8 +13,11 @@ use borrow.Author.Tests.{lt-ltb, le-ltb, eq-eqb, ne-eqb}
 use Rattle.fields.specs.declared.field.UnsignedByteField.{UnsignedByteField}
 use Rattle.fields.specs.Width.{isWidth}
 use Rattle.fields.specs.BigEndian.{numberAt, beAt}
-use Rattle.fields.specs.Answer.{Answer, accepted, told}
-use Rattle.fields.specs.Staged.{run}
+use Rattle.fields.specs.Answer.{Answer, accepted, told, allOf}
+use Rattle.fields.specs.Staged.{Staged, accept, _>>=_, _>>_, bytes, tests, run}
+use Rattle.fields.specs.Demand3.{AtMost}
+use Rattle.fields.proofs.Judging.{Passed, told-is-refused, told-is-short}
+use Rattle.fields.proofs.Staged.{tests-refused, tests-passed}
 use Rattle.fields.proofs.Parts.{part-read}
 use Rattle.header.specs.declared.PduHeader.{PduHeader}
 use Rattle.header.specs.declared.flags.PduType.{PduType}
@@ -25,36 +28,41 @@ use Rattle.header.specs.declared.flags.LargeFileFlag.{LargeFileFlag}
 use Rattle.header.specs.declared.flags.SegmentationControl.{SegmentationControl}
 use Rattle.header.specs.declared.flags.SegmentMetadataFlag.{SegmentMetadataFlag}
 use Rattle.header.specs.Flags.{pduTypeIf, directionIf, modeIf, crcIf, fileIf, controlIf, metadataIf}
+use Rattle.header.specs.Judging.{widthTests}
 use Rattle.header.specs.Reading.{isSet, versionIn, entityWidthIn, sequenceWidthIn, headerLengthIn, headerIn, readingHeader}
 
 module _ (s : List ℕ) where
   pub short-4 : length s < 4 → told (1 ∷ length s ∷ 4 ∷ []) ≡ run readingHeader s
-  unfolding told readingHeader
-  short-4 h = rw (lt-ltb _ _ h)
+  unfolding readingHeader
+  short-4 h = rw (told-is-short _ _, lt-ltb _ _ h)
 
   module _ (long : 4 ≤ length s) where
     pub bad-version : (v : ℕ) → v ≡ versionIn (take 4 s) → (v ≡ 1 → ⊥) → told (2 ∷ v ∷ []) ≡ run readingHeader s
-    unfolding told readingHeader
-    bad-version v p n = rw p (rw (le-ltb _ _ long, ne-eqb _ _ (rw p at n)))
+    unfolding readingHeader
+    bad-version v p n = rw p (rw (told-is-refused 2 _ refl, le-ltb _ _ long, ne-eqb _ _ (rw p at n)))
 
-    module _ (one : versionIn (take 4 s) ≡ 1) where
-      pub bad-entity : (e : ℕ) → e ≡ entityWidthIn (take 4 s) → isWidth e ≡ false → told (3 ∷ e ∷ []) ≡ run readingHeader s
-      unfolding told readingHeader
-      bad-entity e p w = rw p (rw (le-ltb _ _ long, eq-eqb _ _ one, rw p at w))
+    module _ (one : versionIn (take 4 s) ≡ 1) (e q : ℕ) (pe : e ≡ entityWidthIn (take 4 s)) (pq : q ≡ sequenceWidthIn (take 4 s)) where
+      abbrev behind : Staged PduHeader
+      behind = bytes (headerLengthIn (take 4 s)) >>= λ a. accept (headerIn a)
 
-      module _ (e : ℕ) (pe : e ≡ entityWidthIn (take 4 s)) (we : isWidth e ≡ true) where
-        pub bad-sequence : (q : ℕ) → q ≡ sequenceWidthIn (take 4 s) → isWidth q ≡ false → told (4 ∷ q ∷ []) ≡ run readingHeader s
-        unfolding told readingHeader
-        bad-sequence q p w = rw p (rw (le-ltb _ _ long, eq-eqb _ _ one, rw pe at we, rw p at w))
+      rest : run (tests (widthTests e q) >> behind) s ≡ run readingHeader s
+      unfolding readingHeader
+      rest = rw (le-ltb _ _ long, eq-eqb _ _ one, pe, pq)
 
-        module _ (q : ℕ) (pq : q ≡ sequenceWidthIn (take 4 s)) (wq : isWidth q ≡ true) (h : ℕ) (ph : h ≡ headerLengthIn (take 4 s)) where
-          pub short-h : length s < h → told (1 ∷ length s ∷ h ∷ []) ≡ run readingHeader s
-          unfolding told readingHeader
-          short-h t = rw (le-ltb _ _ long, eq-eqb _ _ one, rw pe at we, rw pq at wq, ← ph, lt-ltb _ _ t)
+      pub bad-widths : (ns : List ℕ) → told ns ≡ allOf (widthTests e q) → told ns ≡ run readingHeader s
+      bad-widths ns t = tests-refused ns (widthTests e q) behind tt s t ∙ rest
 
-          pub whole : h ≤ length s → accepted (headerIn (take h s)) ≡ run readingHeader s
-          unfolding readingHeader
-          whole t = rw (le-ltb _ _ long, eq-eqb _ _ one, rw pe at we, rw pq at wq, ← ph, le-ltb _ _ t)
+      module _ (good : Passed (widthTests e q)) (h : ℕ) (ph : h ≡ headerLengthIn (take 4 s)) where
+        pub short-h : length s < h → told (1 ∷ length s ∷ h ∷ []) ≡ run readingHeader s
+        short-h t = rw (told-is-short _ _, ← rest, tests-passed (widthTests e q) behind s good, ← ph, lt-ltb _ _ t)
+
+        pub whole : h ≤ length s → accepted (headerIn (take h s)) ≡ run readingHeader s
+        whole t = rw (← rest, tests-passed (widthTests e q) behind s good, ← ph, le-ltb _ _ t)
+
+-- two refusals as short: 4 bytes, and h
+pub header-two : AtMost readingHeader 2
+unfolding readingHeader
+header-two = λ _ _. tt
 
 -- the first h bytes hold the header
 pub holds : (s : List ℕ) (h : ℕ) → h ≡ headerLengthIn (take 4 s) → h ≤ length s → headerLengthIn (take h s) ≤ length (take h s)

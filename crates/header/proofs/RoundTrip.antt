@@ -193,5 +193,5 @@ module _ (h : PduHeader) (k : Sound h) (small : h .length < 2 ^ 16) where
         let pq : q ≡ sequenceWidthIn (take 4 m) = sym (ap (λ (b : ℕ). b % 8 + 1) g ∙ sequence-is) in
         let ph : headerLength h ≡ headerLengthIn (take 4 m) = length-is (take 4 m) pe pq in
         let l : 4 ≤ headerLength h = four-fixed in
-        sym (whole m (omega (arith, long)) (ap (λ (b : ℕ). b / 32 % 8) f ∙ version-is) e pe we q pq wq (headerLength h) ph long)
+        sym (whole m (omega (arith, long)) (ap (λ (b : ℕ). b / 32 % 8) f ∙ version-is) e q pe pq (rw we, (rw wq, tt)) (headerLength h) ph long)
         ∙ ap accepted header-first

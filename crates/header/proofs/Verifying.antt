@@ -19,14 +19,15 @@ use Rattle.fields.proofs.BigEndian.{at-number, be-length, put-beyond, put-sets}
 use lib.Seq.{sets}
 use Rattle.header.proofs.FlagBits.{crc-bit}
 use Rattle.header.specs.declared.flags.CrcFlag.{CrcFlag}
-use Rattle.fields.proofs.Judging.{Passed}
+use Rattle.fields.proofs.Judging.{Passed, told-is-refused, told-is-short}
 use Rattle.fields.proofs.Staged.{passed-all, told-before, tests-refused, tests-passed}
 use Rattle.header.specs.declared.PduHeader.{PduHeader}
 use Rattle.header.specs.declared.flags.CrcFlag.the-variants.{NoCrc, WithCrc}
 use Rattle.header.specs.Flags.{crcBit}
 use Rattle.header.specs.Header.{headerLength, pduLength, dataEnd}
 use Rattle.header.specs.Judging.{recordTests, judging}
-use Rattle.header.specs.Verifying.{pduBytes, verifyingRead, verifying, checksumBytes, crcAdded}
+use Rattle.header.specs.Verifying.{wrongChecksum, pduBytes, verifying, checksumBytes, crcAdded}
+use Rattle.header.specs.Within.{verifyingRead}
 
 -- a PDU has at least its fixed bytes
 pub at-least : (h : PduHeader) (p : ℕ) → p ≡ pduLength h → 4 ≤ p
@@ -36,8 +37,8 @@ at-least h p e = omega arith
 -- p is P
 module _ (h : PduHeader) (s : List ℕ) (p : ℕ) (is : p ≡ pduLength h) where
   pub short-p : length s < p → told (1 ∷ length s ∷ p ∷ []) ≡ run (verifyingRead h) s
-  unfolding told verifyingRead pduBytes
-  short-p l = rw (← is, lt-ltb _ _ l)
+  unfolding verifyingRead pduBytes
+  short-p l = rw (told-is-short _ _, ← is, lt-ltb _ _ l)
 
   module _ (long : p ≤ length s) where
     pub no-checksum : h .crc ≡ NoCrc → accepted p ≡ run (verifyingRead h) s
@@ -46,11 +47,11 @@ module _ (h : PduHeader) (s : List ℕ) (p : ℕ) (is : p ≡ pduLength h) where
 
     module _ (flag : h .crc ≡ WithCrc) (c : ℕ) (sum : c ≡ checksumOf (take p s)) where
       pub bad-checksum : (v : ℕ) → (c ≡ 0 → ⊥) → v ≡ beAt (take p s) (p - 2) 2 → told (5 ∷ v ∷ []) ≡ run (verifyingRead h) s
-      unfolding told verifyingRead pduBytes
+      unfolding verifyingRead pduBytes
       bad-checksum v n e =
           let k = at-least h p is in
           let r : v ≡ numberAt (take p s) (p - 2) 2 = e ∙ at-number _ _ 2 (omega arith) (omega (arith, length-take-le p s long)) in
-          rw (← is, le-ltb _ _ long, ap crcBit flag, ne-eqb _ _ (rw sum at n), r)
+          rw (told-is-refused 5 _ refl, ← is, le-ltb _ _ long, ap crcBit flag, ne-eqb _ _ (rw sum at n), r)
 
       pub good-checksum : c ≡ 0 → accepted (p - 2) ≡ run (verifyingRead h) s
       unfolding verifyingRead pduBytes dataEnd
@@ -58,25 +59,26 @@ module _ (h : PduHeader) (s : List ℕ) (p : ℕ) (is : p ≡ pduLength h) where
 
 -- of any record: what the judgement refuses is refused, and behind a record that passed the stages decide
 pub refused-verify : (h : PduHeader) (s ns : List ℕ) → told ns ≡ judging h → told ns ≡ run (verifying h) s
-unfolding judging verifying
+unfolding judging verifying verifyingRead
 refused-verify h s ns e = tests-refused ns (recordTests h) (verifyingRead h) h s e
 
 pub passed-verify : (h : PduHeader) (s : List ℕ) → Passed (recordTests h) → run (verifying h) s ≡ run (verifyingRead h) s
-unfolding verifying
+unfolding verifying verifyingRead
 passed-verify h s p = tests-passed (recordTests h) (verifyingRead h) s p
 
 -- ---- for the readers above: a PDU that was verified holds its bytes, and a refusal is the same before E is known
 
-pub record Verified (h : PduHeader) (s : List ℕ) (end : ℕ) : Type 0 where
+pub record Verified (h : PduHeader) (s : List ℕ) (stop : ℕ) : Type 0 where
   pub long : pduLength h ≤ length s
   pub bytes-are : run (pduBytes h) s ≡ accepted (take (pduLength h) s)
-  pub end-is : end ≡ dataEnd h
+  pub good : wrongChecksum h (take (pduLength h) s) .holds ≡ false
+  pub stop-is : stop ≡ dataEnd h
 
-pub verified : (h : PduHeader) (s : List ℕ) (end : ℕ) → accepted end ≡ run (verifyingRead h) s → Verified h s end
+pub verified : (h : PduHeader) (s : List ℕ) (stop : ℕ) → accepted stop ≡ run (verifyingRead h) s → Verified h s stop
 unfolding verifyingRead pduBytes
-verified h s end e =
-    let p = passed-all (verifyingRead h) s end (sym e) in
-    record { long = p .0; bytes-are = rw (le-ltb _ _ (p .0), p .1 .0); end-is = sym (p .1 .1) }
+verified h s stop e =
+    let p = passed-all (verifyingRead h) s stop (sym e) in
+    record { long = p .0; bytes-are = rw (le-ltb _ _ (p .0), p .1 .0); good = p .1 .0; stop-is = sym (p .1 .1) }
 
 pub verified-refused : (h : PduHeader) (s ns : List ℕ) → told ns ≡ run (verifyingRead h) s → told ns ≡ run (pduBytes h) s
 unfolding verifyingRead
@@ -124,6 +126,10 @@ pdu-sum h = refl
 pub end-sum : (h : PduHeader) → dataEnd h + 2 * crcBit (h .crc) ≡ pduLength h
 unfolding dataEnd
 end-sum h = let l = at-least h (pduLength h) refl in omega (arith, crc-bit (h .crc))
+
+-- where the data ends
+pub end-from : (h : PduHeader) (b p : ℕ) → b ≡ crcBit (h .crc) → p ≡ pduLength h → (2 * b ≤ p) × (p - 2 * b ≡ dataEnd h)
+end-from h b p e q = (omega (arith, end-sum h), omega (arith, end-sum h))
 
 -- ---- a message that was closed by its checksum verifies, whatever follows it
 

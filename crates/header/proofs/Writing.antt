@@ -7,15 +7,15 @@ use native.Mathlib.Omega.{arith}
 use lib.ListN.{length, drop, length-append}
 use borrow.Author.Tests.{lt-ltb, le-ltb, ltb-false}
 use Rattle.fields.specs.BigEndian.{beBytes, bePut}
-use Rattle.fields.specs.Answer.{Answer, accepted, told, firstOf, leaves}
+use Rattle.fields.specs.Answer.{Answer, accepted, told, firstOf, leaves, allOf}
 use Rattle.fields.proofs.BigEndian.{be-length, then-put, then-length}
-use Rattle.fields.proofs.Judging.{Passed, passed, passed-whole, passed-on, refused-on, told-leaves}
+use Rattle.fields.proofs.Judging.{Passed, passed, passed-whole, passed-on, all-passed, refused-on, told-leaves, told-is-refused}
 use Rattle.header.specs.declared.PduHeader.{PduHeader}
 use Rattle.header.specs.declared.flags.Direction.{Direction}
 use Rattle.header.specs.declared.flags.LargeFileFlag.{LargeFileFlag}
 use Rattle.header.specs.Header.{withDirection, withFileFlag, withLength, entityWidth, sequenceWidth, headerLength, firstByte, fourthByte, headerBytes}
 use Rattle.header.specs.Judging.{recordTests, judging, Sound}
-use Rattle.header.specs.Writing.{outputTests, writingHeader, headerMemory}
+use Rattle.header.specs.Writing.{noRoom, writingHeader, headerMemory}
 
 pub header-length : (h : PduHeader) → length (headerBytes h) ≡ headerLength h
 unfolding headerBytes headerLength
@@ -63,30 +63,35 @@ refused-write h s ns e = (e, told-leaves ns (writingHeader h (length s)) (λ _. 
 -- what the judgement refuses the writer refuses
 pub refused-record : (h : PduHeader) (room : ℕ) (ns : List ℕ) → told ns ≡ judging h → told ns ≡ writingHeader h room
 unfolding judging writingHeader
-refused-record h room ns e = refused-on ns (recordTests h) (outputTests h room) h (headerLength h) e
+refused-record h room ns e = refused-on ns (recordTests h) (noRoom room (headerLength h) ∷ []) h (headerLength h) e
 
 module _ (h : PduHeader) (good : Passed (recordTests h)) (room : ℕ) where
-  rest : writingHeader h room ≡ firstOf (outputTests h room) (headerLength h)
+  rest : writingHeader h room ≡ firstOf (noRoom room (headerLength h) ∷ []) (headerLength h)
   unfolding writingHeader
-  rest = passed-on (recordTests h) (outputTests h room) (headerLength h) good
+  rest = passed-on (recordTests h) (noRoom room (headerLength h) ∷ []) (headerLength h) good
 
-  pub short-of-h : room < headerLength h → told (11 ∷ room ∷ headerLength h ∷ []) ≡ writingHeader h room
-  unfolding told outputTests
-  short-of-h l = rw (rest, lt-ltb _ _ l)
+  pub short-of-h : (n : ℕ) (ns : List ℕ) → n ≡ headerLength h → told ns ≡ allOf (noRoom room n ∷ []) → told ns ≡ writingHeader h room
+  short-of-h n ns p e = refused-on ns (noRoom room n ∷ []) [] tt (headerLength h) e ∙ ap (λ (m : ℕ). firstOf (noRoom room m ∷ []) (headerLength h)) p ∙ sym rest
 
-  pub enough : headerLength h ≤ room → accepted (headerLength h) ≡ writingHeader h room
-  unfolding outputTests
-  enough l = rw (rest, le-ltb _ _ l)
+  pub enough : (n : ℕ) → n ≡ headerLength h → Passed (noRoom room n ∷ []) → accepted n ≡ writingHeader h room
+  enough n p e = ap accepted p ∙ sym (rest ∙ all-passed (noRoom room (headerLength h) ∷ []) (headerLength h) (rw p at e))
+
+-- ---- the room
+
+pub no-room : (room needed : ℕ) → room < needed → told (11 ∷ room ∷ needed ∷ []) ≡ allOf (noRoom room needed ∷ [])
+no-room room needed l = rw (told-is-refused 11 _ refl, lt-ltb _ _ l)
+
+pub has-room : (room needed : ℕ) → needed ≤ room → accepted tt ≡ allOf (noRoom room needed ∷ [])
+has-room room needed l = rw (le-ltb _ _ l)
 
 -- an accepted write: the record passed every test, and there is room
 pub written-passed : (h : PduHeader) (room n : ℕ) → accepted n ≡ writingHeader h room → Passed (recordTests h)
 unfolding writingHeader
-written-passed h room n e = passed-whole (recordTests h) (outputTests h room) n (headerLength h) e
+written-passed h room n e = passed-whole (recordTests h) (noRoom room (headerLength h) ∷ []) n (headerLength h) e
 
 pub written-room : (h : PduHeader) (room n : ℕ) → accepted n ≡ writingHeader h room → headerLength h ≤ room
-unfolding outputTests
 written-room h room n e =
-    let p = passed (outputTests h room) n (headerLength h) (e ∙ rest h (written-passed h room n e) room) in
+    let p = passed (noRoom room (headerLength h) ∷ []) n (headerLength h) (e ∙ rest h (written-passed h room n e) room) in
     ltb-false _ _ (p .0 .0)
 
 -- and the buffer then has the header's bytes in front, the rest as it was, whatever else the writer's answer depends on

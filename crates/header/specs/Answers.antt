@@ -7,6 +7,8 @@ use Rattle.header.specs.declared.HeaderResult.{HeaderResult}
 use Rattle.header.specs.declared.HeaderResult.the-variants.{Header, Refused}
 use Rattle.header.specs.declared.LengthResult.{LengthResult}
 use Rattle.header.specs.declared.LengthResult.the-variants.{Length, Refused as NoLength}
+use Rattle.header.specs.declared.Judged.{Judged}
+use Rattle.header.specs.declared.Judged.the-variants.{Passed, Refused as NotPassed}
 use Rattle.header.specs.declared.directive.DirectivePdu.{DirectivePdu}
 use Rattle.header.specs.declared.directive.DirectiveResult.{DirectiveResult}
 use Rattle.header.specs.declared.directive.DirectiveResult.the-variants.{Directive, Refused as NoDirective}
@@ -18,6 +20,10 @@ headerAnswer (Refused r) = told (paper r)
 abbrev pub lengthAnswer : LengthResult → Answer ℕ
 lengthAnswer (Length n) = accepted n
 lengthAnswer (NoLength r) = told (paper r)
+
+abbrev pub judgedAnswer : Judged → Answer (Unit {0})
+judgedAnswer Passed = accepted tt
+judgedAnswer (NotPassed r) = told (paper r)
 
 abbrev pub directiveAnswer : DirectiveResult → Answer DirectivePdu
 directiveAnswer (Directive d) = accepted d

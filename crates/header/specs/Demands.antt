@@ -11,13 +11,16 @@ use Rattle.fields.specs.Demand3.{Demand3}
 use Rattle.header.specs.declared.PduHeader.{PduHeader}
 use Rattle.header.specs.declared.HeaderResult.{HeaderResult}
 use Rattle.header.specs.declared.LengthResult.{LengthResult}
+use Rattle.header.specs.declared.Judged.{Judged}
 use Rattle.header.specs.declared.directive.DirectiveResult.{DirectiveResult}
+use Rattle.header.specs.declared.pdu.WriteResult.{WriteResult}
 use Rattle.header.specs.Header.{headerBytes}
-use Rattle.header.specs.Answers.{headerAnswer, lengthAnswer, directiveAnswer}
+use Rattle.header.specs.Answers.{headerAnswer, lengthAnswer, judgedAnswer, directiveAnswer}
 use Rattle.header.specs.Judging.{judging}
 use Rattle.header.specs.Reading.{readingHeader}
 use Rattle.header.specs.Writing.{writingHeader, headerMemory}
-use Rattle.header.specs.Directive.{readingDirectivePdu}
+use Rattle.header.specs.Directive.{readingOwn}
+use Rattle.header.specs.Pdu.{writeAnswer}
 use Rattle.header.specs.Comparing.{sameHeader}
 
 -- DEMAND 2: what is written, followed by anything, reads back as the same header
@@ -57,9 +60,9 @@ SameHeaderShares = (a b : PduHeader) → sameHeader a b ≡ true → SameFields 
 abbrev pub HeaderDemand3 : Type 0
 HeaderDemand3 = Demand3 (run readingHeader) 2
 
--- DEMAND 3: of a directive PDU up to its code, at most four
+-- DEMAND 3: of a directive PDU through its code, at most four
 abbrev pub DirectiveDemand3 : Type 0
-DirectiveDemand3 = Demand3 (run readingDirectivePdu) 4
+DirectiveDemand3 = (own : ℕ) → Demand3 (run (readingOwn own)) 4
 
 -- 'How much each promise says': the answers leave one value
 abbrev pub OneHeaderResult : Type 0
@@ -68,5 +71,11 @@ OneHeaderResult = (a b : HeaderResult) → headerAnswer a ≡ headerAnswer b →
 abbrev pub OneLengthResult : Type 0
 OneLengthResult = (a b : LengthResult) → lengthAnswer a ≡ lengthAnswer b → a ≡ b
 
+abbrev pub OneJudged : Type 0
+OneJudged = (a b : Judged) → judgedAnswer a ≡ judgedAnswer b → a ≡ b
+
 abbrev pub OneDirectiveResult : Type 0
 OneDirectiveResult = (a b : DirectiveResult) → directiveAnswer a ≡ directiveAnswer b → a ≡ b
+
+abbrev pub OneWriteResult : Type 0
+OneWriteResult = (a b : WriteResult) → writeAnswer a ≡ writeAnswer b → a ≡ b

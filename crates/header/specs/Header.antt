@@ -5,6 +5,7 @@ use Rattle.fields.specs.declared.field.UnsignedByteField.{UnsignedByteField}
 use Rattle.fields.specs.BigEndian.{beBytes}
 use Rattle.header.specs.declared.PduHeader.{PduHeader}
 use Rattle.header.specs.declared.flags.Direction.{Direction}
+use Rattle.header.specs.declared.flags.CrcFlag.{CrcFlag}
 use Rattle.header.specs.declared.flags.LargeFileFlag.{LargeFileFlag}
 use Rattle.header.specs.Flags.{pduTypeBit, directionBit, modeBit, crcBit, fileBit, controlBit, metadataBit}
 
@@ -12,7 +13,13 @@ use Rattle.header.specs.Flags.{pduTypeBit, directionBit, modeBit, crcBit
 abbrev pub version : ℕ
 version = 1
 
--- the bytes before the identifiers
+-- where the fields of fixed width stand: byte 0, bytes 1 and 2, byte 3; the identifiers begin behind them
+abbrev pub lengthAt : ℕ
+lengthAt = 1
+
+abbrev pub widthsAt : ℕ
+widthsAt = 3
+
 abbrev pub fixedLength : ℕ
 fixedLength = 4
 
@@ -31,16 +38,26 @@ abbrev pub destId : PduHeader → UnsignedByteField
 destId h = record { width = h .width; value = h .destination .0 }
 
 -- h = 4 + 2e + s
+abbrev pub lengthOf : ℕ → ℕ → ℕ
+lengthOf e s = fixedLength + 2 * e + s
+
 unfoldable pub headerLength : PduHeader → ℕ
-headerLength h = fixedLength + 2 * entityWidth h + sequenceWidth h
+headerLength h = lengthOf (entityWidth h) (sequenceWidth h)
 
 -- P = h + d
 unfoldable pub pduLength : PduHeader → ℕ
 pduLength h = headerLength h + h .length
 
+-- the bytes of the checksum: 2 with the CRC flag, else none
+abbrev pub checksumWidth : ℕ
+checksumWidth = 2
+
+abbrev pub crcLength : CrcFlag → ℕ
+crcLength flag = checksumWidth * crcBit flag
+
 -- E = P, or P - 2 with the CRC flag
 unfoldable pub dataEnd : PduHeader → ℕ
-dataEnd h = pduLength h - 2 * crcBit (h .crc)
+dataEnd h = pduLength h - crcLength (h .crc)
 
 -- byte 0, high bit first: version 3 bits, PDU type 1, direction 1, transmission mode 1, CRC flag 1, large file flag 1
 unfoldable pub firstByte : PduHeader → ℕ

@@ -6,7 +6,7 @@ use mathlib.Core.List.{List, [], _∷_}
 use lib.Dec.{eqb}
 use Rattle.fields.specs.declared.field.UnsignedByteField.{UnsignedByteField}
 use Rattle.fields.specs.Width.{isWidth, fitsField}
-use Rattle.fields.specs.Answer.{Answer, Test, when, firstOf}
+use Rattle.fields.specs.Answer.{Answer, andThen, Test, when, firstOf}
 use Rattle.header.specs.declared.PduHeader.{PduHeader}
 use Rattle.header.specs.Header.{sourceId, destId}
 
@@ -25,6 +25,10 @@ wrongSequenceWidth w = when (not (isWidth w)) (4 ∷ w ∷ [])
 -- 14: value does not fit its width
 abbrev pub tooLarge : UnsignedByteField → Test
 tooLarge f = when (not (fitsField f)) (14 ∷ f .value ∷ f .width ∷ [])
+
+-- 3, 4
+abbrev pub widthTests : ℕ → ℕ → List Test
+widthTests entity sequence = wrongEntityWidth entity ∷ wrongSequenceWidth sequence ∷ []
 
 -- 3, 4, 14 (for source, then sequence, then destination)
 unfoldable pub recordTests : PduHeader → List Test
@@ -46,7 +50,7 @@ joining source destination h = firstOf (widthsDiffer (source .width) (destinatio
 
 -- 'Building a record: 13, 3, 4, 14'
 unfoldable pub building : UnsignedByteField → UnsignedByteField → PduHeader → Answer PduHeader
-building source destination h = firstOf (widthsDiffer (source .width) (destination .width) ∷ recordTests h) h
+building source destination h = andThen (joining source destination h) judging
 
 -- what a record that passed is known to be, for the functions behind the judgement
 pub record Sound (h : PduHeader) : Type 0 where

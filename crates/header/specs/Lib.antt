@@ -6,7 +6,10 @@ pub mod Judging
 pub mod Reading
 pub mod Writing
 pub mod Verifying
+pub mod Code
 pub mod Directive
+pub mod Pdu
+pub mod Size
 pub mod Comparing
 pub mod Within
 pub mod Demands

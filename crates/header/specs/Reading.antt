@@ -1,5 +1,5 @@
 -- Reading a header: what stands in its bytes (5.1, table 5-1), and the reading, in the order of document 01's sentence.
-use Prim.Native.Nat.{ℕ, _+_, _*_, _/_, _%_}
+use Prim.Native.Nat.{ℕ, _+_, _/_, _%_}
 use mathlib.Core.Bool.{Bool, not}
 use mathlib.Core.List.{List, [], _∷_}
 use lib.Dec.{eqb}
@@ -9,7 +9,7 @@ use Rattle.fields.specs.Answer.{Test, when}
 use Rattle.fields.specs.Staged.{Staged, accept, _>>=_, _>>_, bytes, test}
 use Rattle.header.specs.declared.PduHeader.{PduHeader}
 use Rattle.header.specs.Flags.{pduTypeIf, directionIf, modeIf, crcIf, fileIf, controlIf, metadataIf}
-use Rattle.header.specs.Header.{version, fixedLength}
+use Rattle.header.specs.Header.{version, lengthAt, widthsAt, fixedLength, lengthOf}
 use Rattle.header.specs.Judging.{wrongEntityWidth, wrongSequenceWidth}
 
 -- whether the bit of that value is set in a byte
@@ -22,13 +22,13 @@ versionIn s = getD s 0 0 / 32 % 8
 
 -- byte 3: the widths, each stored less one
 abbrev pub entityWidthIn : List ℕ → ℕ
-entityWidthIn s = getD s 3 0 / 16 % 8 + 1
+entityWidthIn s = getD s widthsAt 0 / 16 % 8 + 1
 
 abbrev pub sequenceWidthIn : List ℕ → ℕ
-sequenceWidthIn s = getD s 3 0 % 8 + 1
+sequenceWidthIn s = getD s widthsAt 0 % 8 + 1
 
 abbrev pub headerLengthIn : List ℕ → ℕ
-headerLengthIn s = fixedLength + 2 * entityWidthIn s + sequenceWidthIn s
+headerLengthIn s = lengthOf (entityWidthIn s) (sequenceWidthIn s)
 
 -- the header that stands in its bytes
 unfoldable pub headerIn : List ℕ → PduHeader
@@ -39,13 +39,13 @@ headerIn s =
       mode = modeIf (isSet (getD s 0 0) 4);
       crc = crcIf (isSet (getD s 0 0) 2);
       file = fileIf (isSet (getD s 0 0) 1);
-      length = numberAt s 1 2;
-      control = controlIf (isSet (getD s 3 0) 128);
+      length = numberAt s lengthAt 2;
+      control = controlIf (isSet (getD s widthsAt 0) 128);
       width = entityWidthIn s;
-      metadata = metadataIf (isSet (getD s 3 0) 8);
-      source = record { 0 = numberAt s 4 (entityWidthIn s) };
-      sequence = record { 0 = record { width = sequenceWidthIn s; value = numberAt s (4 + entityWidthIn s) (sequenceWidthIn s) } };
-      destination = record { 0 = numberAt s (4 + entityWidthIn s + sequenceWidthIn s) (entityWidthIn s) };
+      metadata = metadataIf (isSet (getD s widthsAt 0) 8);
+      source = record { 0 = numberAt s fixedLength (entityWidthIn s) };
+      sequence = record { 0 = record { width = sequenceWidthIn s; value = numberAt s (fixedLength + entityWidthIn s) (sequenceWidthIn s) } };
+      destination = record { 0 = numberAt s (fixedLength + entityWidthIn s + sequenceWidthIn s) (entityWidthIn s) };
     }
 
 -- 2: version is not 1

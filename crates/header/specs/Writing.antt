@@ -8,13 +8,13 @@ use Rattle.header.specs.declared.PduHeader.{PduHeader}
 use Rattle.header.specs.Header.{headerLength, headerBytes}
 use Rattle.header.specs.Judging.{recordTests}
 
--- 11: 'it needs h for every buffer below h' (C-02)
-unfoldable pub outputTests : PduHeader → ℕ → List Test
-outputTests h room = when (ltb room (headerLength h)) (11 ∷ room ∷ headerLength h ∷ []) ∷ []
+-- 11: output buffer short
+abbrev pub noRoom : ℕ → ℕ → Test
+noRoom room needed = when (ltb room needed) (11 ∷ room ∷ needed ∷ [])
 
--- '3, 4, 14, then 11'; else the written length
+-- '3, 4, 14, then 11'; 'it needs h for every buffer below h' (C-02); else the written length
 unfoldable pub writingHeader : PduHeader → ℕ → Answer ℕ
-writingHeader h room = firstOf (recordTests h ++ outputTests h room) (headerLength h)
+writingHeader h room = firstOf (recordTests h ++ (noRoom room (headerLength h) ∷ [])) (headerLength h)
 
 -- the buffer at exit: the header's bytes in front, the rest as it was; a refusal changes nothing
 unfoldable pub headerMemory : PduHeader → List ℕ → List ℕ

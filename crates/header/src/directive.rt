@@ -1,32 +1,28 @@
-// What all directive PDUs share: their reader's tests before the directive code, and their writer's judgement of a record. File data, PDU type 1, is refusal 21.
+// Reading a directive PDU through its code: what the reader of every directive begins with.
 ghost use mathlib.Core.Path.{_≡_};
-ghost use lib.ListN.{length};
+ghost use mathlib.Core.List.{[], _∷_};
+ghost use Rattle.fields.specs.Answer.{firstOf, allOf};
 ghost use Rattle.fields.specs.Staged.{run};
-ghost use Rattle.header.specs.Answers.{lengthAnswer, directiveAnswer};
-ghost use Rattle.header.specs.Directive.{verifyingDirective, readingDirectivePdu, judgingDirective, writingDirective, directiveMemory};
-use crate::HeaderResult;
+ghost use Rattle.header.specs.Answers.{lengthAnswer, judgedAnswer, directiveAnswer};
+ghost use Rattle.header.specs.Directive.{dataShort, notADirective, readingOwn};
+ghost use Rattle.header.specs.Within.{behindNine, verifyingDirective, readingUpToCode};
+use crate::Judged;
 use crate::LengthResult;
 use crate::PduHeader;
 use crate::PduType;
+use crate::code::DirectiveKind;
 use crate::read::header_in;
 use crate::read::length_in;
-use crate::write::no_room;
-use crate::write::put_header;
+use crate::read::short;
 use fields::Refusal;
 
 // A directive code and a normal scope: the fewest bytes that the Rust asks for.
 const LEAST_LEN: usize = 9;
 
-fn data_short(end: usize, expected: usize) -> LengthResult
-    ensures { λ r. ⌜ r ≡ LengthResult.Refused (Refusal.DataFieldTooSmall end expected) ⌝ }
-{
-    LengthResult::Refused(Refusal::DataFieldTooSmall { end, expected })
-}
-
-// A directive PDU up to its code: its header, and E, where its data ends.
+// A directive PDU: its header, and E, where its data ends. The data begins behind the header, with the directive's code.
 pub struct DirectivePdu {
     pub header: PduHeader,
-    pub end: usize,
+    pub stop: usize,
 }
 
 // A directive PDU, or why there is none.
@@ -35,11 +31,70 @@ pub enum DirectiveResult {
     Refused(Refusal),
 }
 
+// 6: whether the data reaches as far as is needed.
+pub fn judge_data(stop: usize, expected: usize) -> Judged
+    ensures { λ r. ⌜ judgedAnswer r ≡ allOf (dataShort stop expected ∷ []) ⌝ }
+{
+    if stop < expected {
+        return Judged::Refused(Refusal::DataFieldTooSmall { stop, expected });
+    }
+    Judged::Passed
+}
+
+impl PduHeader {
+    // 21: file data has no directive.
+    pub(crate) fn judge_type(self) -> Judged
+        ensures { λ r. ⌜ judgedAnswer r ≡ allOf (notADirective self ∷ []) ⌝ }
+    {
+        let kind = self.kind;
+        match kind {
+            PduType::FileData => Judged::Refused(Refusal::NotADirective),
+            PduType::FileDirective => Judged::Passed,
+        }
+    }
+
+    // E of a header that was read, whose data holds the directive's code. The checksum comes first: a damaged bit of the PDU type is a
+    // checksum fault.
+    fn verify_directive(self, buf: &[u8]) -> LengthResult
+        ensures { λ r. ⌜ lengthAnswer r ≡ run (verifyingDirective self) (now (buf .entry)) ⌝ }
+    {
+        let verified = self.verify_read(buf);
+        match verified {
+            LengthResult::Refused(refusal) => LengthResult::Refused(refusal),
+            LengthResult::Length(stop) => {
+                if buf.len() < LEAST_LEN {
+                    return short(buf.len(), LEAST_LEN);
+                }
+                self.judge_directive(stop)
+            }
+        }
+    }
+
+    // In a PDU of at least 9 bytes, whose data ends at `stop`.
+    fn judge_directive(self, stop: usize) -> LengthResult
+        ensures { λ r. ⌜ lengthAnswer r ≡ firstOf (behindNine self stop) stop ⌝ }
+    {
+        let least = judge_data(stop, LEAST_LEN);
+        if let Judged::Refused(refusal) = least {
+            return LengthResult::Refused(refusal);
+        }
+        let directive = self.judge_type();
+        if let Judged::Refused(refusal) = directive {
+            return LengthResult::Refused(refusal);
+        }
+        let code = judge_data(stop, self.header_len() + 1);
+        if let Judged::Refused(refusal) = code {
+            return LengthResult::Refused(refusal);
+        }
+        LengthResult::Length(stop)
+    }
+}
+
 impl DirectivePdu {
-    // What follows the PDU is not looked at. The header is not read by `PduHeader::from_bytes`: from here its two functions become a part
-    // of the caller, and the record is not handed through memory.
-    pub fn from_bytes(buf: &[u8]) -> DirectiveResult
-        ensures { λ r. ⌜ directiveAnswer r ≡ run readingDirectivePdu (now (buf .entry)) ⌝ }
+    // Up to the code. The header is not read by `PduHeader::from_bytes`: from here its two functions become a part of the caller, and the
+    // record is not handed through memory.
+    fn up_to_code(buf: &[u8]) -> DirectiveResult
+        ensures { λ r. ⌜ directiveAnswer r ≡ run readingUpToCode (now (buf .entry)) ⌝ }
     {
         let length = length_in(buf);
         match length {
@@ -49,93 +104,35 @@ impl DirectivePdu {
                 let verified = header.verify_directive(buf);
                 match verified {
                     LengthResult::Refused(refusal) => DirectiveResult::Refused(refusal),
-                    LengthResult::Length(end) => {
-                        DirectiveResult::Directive(DirectivePdu { header, end })
+                    LengthResult::Length(stop) => {
+                        DirectiveResult::Directive(DirectivePdu { header, stop })
                     }
                 }
             }
         }
     }
-}
 
-impl PduHeader {
-    // E: where the data ends, behind the directive code, of a header that was read. The checksum comes first: a damaged bit of the PDU type
-    // is a checksum fault.
-    fn verify_directive(self, buf: &[u8]) -> LengthResult
-        ensures { λ r. ⌜ lengthAnswer r ≡ run (verifyingDirective self) (now (buf .entry)) ⌝ }
+    // A PDU of the directive `own`. What follows the PDU is not looked at.
+    pub fn from_bytes(own: u8, buf: &[u8]) -> DirectiveResult
+        ensures { λ r. ⌜ directiveAnswer r ≡ run (readingOwn own) (now (buf .entry)) ⌝ }
     {
-        let verified = self.verify_read(buf);
-        match verified {
-            LengthResult::Refused(refusal) => LengthResult::Refused(refusal),
-            LengthResult::Length(end) => {
-                if buf.len() < LEAST_LEN {
-                    return LengthResult::Refused(Refusal::FromSliceTooSmall {
-                        found: buf.len(),
-                        expected: LEAST_LEN,
-                    });
+        let read = DirectivePdu::up_to_code(buf);
+        match read {
+            DirectiveResult::Refused(refusal) => DirectiveResult::Refused(refusal),
+            DirectiveResult::Directive(pdu) => {
+                let at = pdu.header.header_len();
+                let code = buf[at];
+                let kind = DirectiveKind::from_code(code, own);
+                match kind {
+                    DirectiveKind::Unknown => {
+                        DirectiveResult::Refused(Refusal::InvalidDirectiveType(code))
+                    }
+                    DirectiveKind::Known => {
+                        DirectiveResult::Refused(Refusal::WrongDirectiveType(code))
+                    }
+                    DirectiveKind::Own => DirectiveResult::Directive(pdu),
                 }
-                if end < LEAST_LEN {
-                    return data_short(end, LEAST_LEN);
-                }
-                let kind = self.kind;
-                if let PduType::FileData = kind {
-                    return LengthResult::Refused(Refusal::NotADirective);
-                }
-                let code = self.header_len();
-                if end < code + 1 {
-                    return data_short(end, code + 1);
-                }
-                LengthResult::Length(end)
             }
-        }
-    }
-
-    // h, the bytes of the header, if a directive PDU can have the record, which would be longer to hand back.
-    pub fn judged_directive(self) -> LengthResult
-        ensures { λ r. ⌜ lengthAnswer r ≡ judgingDirective self ⌝ }
-    {
-        let judged = self.judged();
-        match judged {
-            HeaderResult::Refused(refusal) => LengthResult::Refused(refusal),
-            HeaderResult::Header(_) => {
-                let kind = self.kind;
-                if let PduType::FileData = kind {
-                    return LengthResult::Refused(Refusal::NotADirective);
-                }
-                LengthResult::Length(self.header_len())
-            }
-        }
-    }
-
-    // Its header, into a buffer that holds all of the PDU: the PDU's length. A refused write changes no byte.
-    pub fn write_directive_header(self, buf: &mut [u8]) -> LengthResult
-        ensures answered { λ r. ⌜ lengthAnswer r ≡ writingDirective self (length (now (buf .entry))) ⌝ }
-        ensures stored { λ _. ⌜ now (buf .exit) ≡ directiveMemory self (now (buf .entry)) ⌝ }
-    {
-        let answer = writable(self, buf.len());
-        match answer {
-            LengthResult::Refused(refusal) => LengthResult::Refused(refusal),
-            LengthResult::Length(length) => {
-                put_header(self, buf);
-                LengthResult::Length(length)
-            }
-        }
-    }
-}
-
-// The PDU's length, or why its header cannot be written into so many bytes.
-fn writable(h: PduHeader, room: usize) -> LengthResult
-    ensures { λ r. ⌜ lengthAnswer r ≡ writingDirective h room ⌝ }
-{
-    let judged = h.judged_directive();
-    match judged {
-        LengthResult::Refused(refusal) => LengthResult::Refused(refusal),
-        LengthResult::Length(_) => {
-            let length = h.pdu_len();
-            if room < length {
-                return no_room(room, length);
-            }
-            LengthResult::Length(length)
         }
     }
 }

@@ -1,10 +1,12 @@
 // Judging a header record (refusals 3, 4 and 14), and building one from two identifiers that have a width each (13 before them).
 ghost use mathlib.Core.Path.{_≡_};
-ghost use Rattle.header.specs.Answers.{headerAnswer};
-ghost use Rattle.header.specs.Judging.{judging, joining, building};
+ghost use Rattle.fields.specs.Answer.{allOf};
+ghost use Rattle.header.specs.Answers.{headerAnswer, judgedAnswer};
+ghost use Rattle.header.specs.Judging.{widthTests, judging, joining, building};
 use crate::CrcFlag;
 use crate::Direction;
 use crate::HeaderResult;
+use crate::Judged;
 use crate::LargeFileFlag;
 use crate::PduHeader;
 use crate::PduType;
@@ -16,6 +18,19 @@ use fields::Refusal;
 use fields::TransactionSeqNum;
 use fields::UnsignedByteField;
 use fields::field;
+
+// 3, then 4.
+pub(crate) fn judge_widths(entity: u8, sequence: u8) -> Judged
+    ensures { λ r. ⌜ judgedAnswer r ≡ allOf (widthTests entity sequence) ⌝ }
+{
+    if !field::is_width(entity) {
+        return Judged::Refused(Refusal::InvalidEntityLen(entity));
+    }
+    if !field::is_width(sequence) {
+        return Judged::Refused(Refusal::InvalidTransactionSeqNumLen(sequence));
+    }
+    Judged::Passed
+}
 
 fn too_large(field: UnsignedByteField) -> Refusal
     ensures { λ r. ⌜ r ≡ Refusal.ValueTooLargeForWidth (field .value) (field .width) ⌝ }
@@ -34,11 +49,9 @@ impl PduHeader {
         let source = self.source_id();
         let sequence = self.sequence.0;
         let destination = self.dest_id();
-        if !field::is_width(self.width) {
-            return HeaderResult::Refused(Refusal::InvalidEntityLen(self.width));
-        }
-        if !field::is_width(sequence.width) {
-            return HeaderResult::Refused(Refusal::InvalidTransactionSeqNumLen(sequence.width));
+        let judged = judge_widths(self.width, sequence.width);
+        if let Judged::Refused(refusal) = judged {
+            return HeaderResult::Refused(refusal);
         }
         if !source.fits() {
             return HeaderResult::Refused(too_large(source));

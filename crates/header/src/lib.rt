@@ -1,17 +1,20 @@
-// Layer 2 of the codec: the common PDU header (the Rust's `cfdp/pdu/mod.rs`): its record, read, judged, written, verified and compared.
+// Layer 2 of the codec: the common PDU header (the Rust's `cfdp/pdu/mod.rs`): its record, read, judged, written, verified and compared; and what every directive PDU shares.
 ghost use mathlib.Core.Path.{_≡_};
 ghost use Prim.Native.Nat.{_≤_};
-ghost use Rattle.header.specs.Header.{headerLength, pduLength, sourceId, destId, withDirection, withFileFlag, withLength};
+ghost use Rattle.header.specs.Header.{headerLength, pduLength, dataEnd, sourceId, destId, withDirection, withFileFlag, withLength};
 use fields::EntityId;
 use fields::Refusal;
 use fields::TransactionSeqNum;
 use fields::UnsignedByteField;
 
+pub mod code;
 pub mod compare;
 pub mod directive;
 pub mod flags;
 pub mod judge;
+pub mod pdu;
 pub mod read;
+pub mod size;
 pub mod verify;
 pub mod write;
 
@@ -25,6 +28,9 @@ pub use flags::TransmissionMode;
 
 // The bytes before the identifiers.
 pub const FIXED_HEADER_LEN: usize = 4;
+
+// The bytes of a checksum.
+pub const CRC_LEN: usize = 2;
 
 // All fields of a header. The Rust's names stand beside those that differ. Their order is that in memory, where a record shares its place
 // with a refusal (`HeaderResult`): the numbers of one lie over those of the other, and the flags behind them, so that a record is handed
@@ -67,6 +73,12 @@ pub enum LengthResult {
     Refused(Refusal),
 }
 
+// What a judgement says that hands back nothing: that its tests were passed, or which was not.
+pub enum Judged {
+    Passed,
+    Refused(Refusal),
+}
+
 impl PduHeader {
     // h: the bytes of the header, at most 4 + 3 * 255.
     pub fn header_len(self) -> usize
@@ -96,6 +108,14 @@ impl PduHeader {
         ensures { λ r. ⌜ (r ≡ pduLength self) × (r ≤ 66304) ⌝ }
     {
         self.header_len() + (self.length as usize)
+    }
+
+    // E: where the data of the PDU ends: a checksum is no data.
+    pub fn data_end(self) -> usize
+        ensures { λ r. ⌜ r ≡ dataEnd self ⌝ }
+    {
+        let crc = self.crc;
+        self.pdu_len() - CRC_LEN * (crc.bit() as usize)
     }
 
     pub fn with_direction(self, direction: Direction) -> Self

@@ -10,6 +10,7 @@ use crate::CrcFlag;
 use crate::Direction;
 use crate::FIXED_HEADER_LEN;
 use crate::HeaderResult;
+use crate::Judged;
 use crate::LargeFileFlag;
 use crate::LengthResult;
 use crate::PduHeader;
@@ -18,12 +19,15 @@ use crate::SegmentMetadataFlag;
 use crate::SegmentationControl;
 use crate::TransmissionMode;
 use crate::flags::CFDP_VERSION_2;
+use crate::judge::judge_widths;
 use fields::EntityId;
 use fields::Refusal;
 use fields::TransactionSeqNum;
 use fields::UnsignedByteField;
 use fields::be;
-use fields::field;
+
+// Byte 3, which holds the two widths.
+const WIDTHS_AT: usize = 3;
 
 // Whether bit k is set; bit 0 is the lowest.
 fn bit_at(byte: u8, k: u8) -> bool
@@ -55,15 +59,15 @@ pub(crate) fn header_in(s: &[u8]) -> PduHeader
     ensures { λ r. ⌜ r ≡ headerIn (now (s .entry)) ⌝ }
 {
     let first = s[0];
-    let fourth = s[3];
+    let fourth = s[WIDTHS_AT];
     let entity = width_at(fourth, 4);
     let sequence = width_at(fourth, 0);
     let e = entity as usize;
     let q = sequence as usize;
-    let second = 4 + e;
+    let second = FIXED_HEADER_LEN + e;
     let third = second + q;
     let length = be::read_be(&s[1..3], 0, 2) as u16;
-    let source_id = be::read_be(&s[4..second], 0, e);
+    let source_id = be::read_be(&s[FIXED_HEADER_LEN..second], 0, e);
     let number = be::read_be(&s[second..third], 0, q);
     let destination_id = be::read_be(&s[third..third + e], 0, e);
     PduHeader {
@@ -82,7 +86,7 @@ pub(crate) fn header_in(s: &[u8]) -> PduHeader
     }
 }
 
-fn short(found: usize, expected: usize) -> LengthResult
+pub(crate) fn short(found: usize, expected: usize) -> LengthResult
     ensures { λ r. ⌜ r ≡ LengthResult.Refused (Refusal.FromSliceTooSmall found expected) ⌝ }
 {
     LengthResult::Refused(Refusal::FromSliceTooSmall { found, expected })
@@ -101,13 +105,11 @@ pub(crate) fn length_in(buf: &[u8]) -> LengthResult
     if version != CFDP_VERSION_2 {
         return LengthResult::Refused(Refusal::CfdpVersionMissmatch(version));
     }
-    let entity = width_at(fixed[3], 4);
-    if !field::is_width(entity) {
-        return LengthResult::Refused(Refusal::InvalidEntityLen(entity));
-    }
-    let sequence = width_at(fixed[3], 0);
-    if !field::is_width(sequence) {
-        return LengthResult::Refused(Refusal::InvalidTransactionSeqNumLen(sequence));
+    let entity = width_at(fixed[WIDTHS_AT], 4);
+    let sequence = width_at(fixed[WIDTHS_AT], 0);
+    let judged = judge_widths(entity, sequence);
+    if let Judged::Refused(refusal) = judged {
+        return LengthResult::Refused(refusal);
     }
     let len = FIXED_HEADER_LEN + 2 * (entity as usize) + (sequence as usize);
     if n < len {

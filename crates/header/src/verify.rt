@@ -2,37 +2,37 @@
 ghost use mathlib.Core.Path.{_≡_};
 ghost use Rattle.fields.specs.Staged.{run};
 ghost use Rattle.header.specs.Answers.{lengthAnswer};
-ghost use Rattle.header.specs.Verifying.{verifyingRead, verifying, crcAdded};
+ghost use Rattle.header.specs.Verifying.{verifying, crcAdded};
+ghost use Rattle.header.specs.Within.{verifyingRead};
+use crate::CRC_LEN;
 use crate::CrcFlag;
 use crate::HeaderResult;
 use crate::LengthResult;
 use crate::PduHeader;
+use crate::read::short;
 use fields::Refusal;
 use fields::be;
 use fields::crc;
 
 impl PduHeader {
     // E: where the data ends, of a header that was read: its record is not judged again.
-    pub fn verify_read(self, buf: &[u8]) -> LengthResult
+    pub(crate) fn verify_read(self, buf: &[u8]) -> LengthResult
         ensures { λ r. ⌜ lengthAnswer r ≡ run (verifyingRead self) (now (buf .entry)) ⌝ }
     {
         let len = self.pdu_len();
         if buf.len() < len {
-            return LengthResult::Refused(Refusal::FromSliceTooSmall {
-                found: buf.len(),
-                expected: len,
-            });
+            return short(buf.len(), len);
         }
         let flag = self.crc;
         if let CrcFlag::NoCrc = flag {
             return LengthResult::Length(len);
         }
         let pdu = &buf[..len];
-        let end = len - 2;
+        let stop = len - CRC_LEN;
         if crc::checksum(pdu) != 0 {
-            return LengthResult::Refused(Refusal::Checksum(be::read_be(pdu, end, 2) as u16));
+            return LengthResult::Refused(Refusal::Checksum(be::read_be(pdu, stop, CRC_LEN) as u16));
         }
-        LengthResult::Length(end)
+        LengthResult::Length(stop)
     }
 
     // The same of any record, which is judged first.
@@ -58,5 +58,5 @@ pub fn add_pdu_crc(buf: &mut [u8], n: usize, flag: CrcFlag)
         return;
     }
     let sum = crc::checksum(&buf[..n]);
-    be::write_be(buf, n, 2, sum as u64);
+    be::write_be(buf, n, CRC_LEN, sum as u64);
 }

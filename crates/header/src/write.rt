@@ -1,14 +1,16 @@
 // Writing a header: bytes 0 and 3 are packed by shifts and masks, and each field is written behind the one before.
 ghost use mathlib.Core.Path.{_≡_};
 ghost use Prim.Native.Nat.{_+_, _*_, _^_, _≤_, _<_};
-ghost use mathlib.Core.List.{_++_};
+ghost use mathlib.Core.List.{[], _∷_, _++_};
 ghost use lib.ListN.{length, drop};
-ghost use Rattle.header.specs.Answers.{lengthAnswer};
+ghost use Rattle.fields.specs.Answer.{allOf};
+ghost use Rattle.header.specs.Answers.{lengthAnswer, judgedAnswer};
 ghost use Rattle.header.specs.Header.{headerLength, firstByte, fourthByte, headerBytes};
 ghost use Rattle.header.specs.Judging.{Sound};
-ghost use Rattle.header.specs.Writing.{writingHeader, headerMemory};
+ghost use Rattle.header.specs.Writing.{noRoom, writingHeader, headerMemory};
 use crate::FIXED_HEADER_LEN;
 use crate::HeaderResult;
+use crate::Judged;
 use crate::LengthResult;
 use crate::PduHeader;
 use crate::flags::CFDP_VERSION_2;
@@ -69,15 +71,19 @@ pub(crate) fn put_header(h: PduHeader, buf: &mut [u8])
     be::write_be(buf, 0, 1, first);
     be::write_be(buf, 1, 2, length);
     be::write_be(buf, 3, 1, fourth);
-    be::write_be(buf, 4, entity, source_id);
+    be::write_be(buf, FIXED_HEADER_LEN, entity, source_id);
     be::write_be(buf, second, sequence, number);
     be::write_be(buf, third, entity, destination_id);
 }
 
-pub(crate) fn no_room(found: usize, expected: usize) -> LengthResult
-    ensures { λ r. ⌜ r ≡ LengthResult.Refused (Refusal.ToSliceTooSmall found expected) ⌝ }
+// 11: whether a buffer of so many bytes has the room that is needed.
+pub(crate) fn judge_room(found: usize, expected: usize) -> Judged
+    ensures { λ r. ⌜ judgedAnswer r ≡ allOf (noRoom found expected ∷ []) ⌝ }
 {
-    LengthResult::Refused(Refusal::ToSliceTooSmall { found, expected })
+    if found < expected {
+        return Judged::Refused(Refusal::ToSliceTooSmall { found, expected });
+    }
+    Judged::Passed
 }
 
 // The written length, or why a header cannot be written into so many bytes.
@@ -89,10 +95,11 @@ fn writable(h: PduHeader, room: usize) -> LengthResult
         HeaderResult::Refused(refusal) => LengthResult::Refused(refusal),
         HeaderResult::Header(_) => {
             let len = h.header_len();
-            if room < len {
-                return no_room(room, len);
+            let judged = judge_room(room, len);
+            match judged {
+                Judged::Refused(refusal) => LengthResult::Refused(refusal),
+                Judged::Passed => LengthResult::Length(len),
             }
-            LengthResult::Length(len)
         }
     }
 }

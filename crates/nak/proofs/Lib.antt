@@ -1,9 +1,9 @@
 -- Laws of the definitions. The proof of a function stands in the folder of its name.
-pub mod Codes
-pub mod Parts
 pub mod Reading
 pub mod Walking
 mod Held
+pub mod Tests
+pub mod Storing
 pub mod Writing
 pub mod Reserving
 pub mod Counting

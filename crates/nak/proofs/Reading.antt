@@ -1,77 +1,75 @@
--- Reading a NAK: its answer at each exit, and a NAK made of its parts.
+-- Reading a NAK: a NAK made of its parts, and the answer behind its code.
 -- Assumes nothing.
-use Prim.Native.Nat.{ℕ, _+_, _-_, _*_, _/_, _≤_, _<_}
-use mathlib.Core.Path.{_≡_}
-use mathlib.Core.Bool.{Bool, true, false}
+use Prim.Native.Nat.{ℕ, _+_, _-_, _*_, _/_, _≤_}
+use mathlib.Core.Path.{_≡_, refl, sym, ap, ap₂, _∙_}
 use mathlib.Core.List.{List, [], _∷_}
-use lib.Dec.{eqb}
-use lib.ListN.{getD, take}
-use borrow.Author.Tests.{lt-ltb, le-ltb}
-use Rattle.fields.specs.BigEndian.{numberAt}
-use Rattle.fields.specs.Answer.{Answer, accepted, told}
+use native.Mathlib.Omega.{arith}
+use lib.ListN.{length, take, drop}
+use borrow.Author.Tests.{ltb-false}
+use Rattle.fields.specs.BigEndian.{numberAt, beAt}
+use Rattle.fields.specs.Answer.{Answer, accepted, told, Test, firstOf, allOf}
 use Rattle.fields.specs.Staged.{run}
-use Rattle.fields.proofs.Staged.{accepted-bind}
+use Rattle.fields.proofs.BigEndian.{at-number}
+use Rattle.fields.proofs.Judging.{judged-passed, all-passed, refused-on}
 use Rattle.header.specs.declared.PduHeader.{PduHeader}
 use Rattle.header.specs.declared.directive.DirectivePdu.{DirectivePdu}
-use Rattle.header.specs.Header.{headerLength, pduLength, dataEnd}
-use Rattle.header.specs.Reading.{readingHeader}
-use Rattle.header.specs.Directive.{readingDirectivePdu}
-use Rattle.header.proofs.Directives.{VerifiedDirective, pdu-refused, pdu-read}
+use Rattle.header.specs.Header.{headerLength, dataEnd}
+use Rattle.header.specs.Directive.{dataShort, readingOwn}
+use Rattle.header.specs.Size.{sizeWidth}
+use Rattle.header.proofs.Directives.{OwnRead, refused-own, read-own}
+use Rattle.header.proofs.Sizes.{size-high}
 use Rattle.nak.specs.declared.Nak.{Nak}
-use Rattle.nak.specs.Directive.{isKnown}
-use Rattle.nak.specs.Nak.{offsetWidth, areaStart, nakIn}
-use Rattle.nak.specs.Reading.{readingScope, readingDirective, readingData, readingNak}
+use Rattle.nak.specs.Nak.{nakCode, areaStart, nakIn}
+use Rattle.nak.specs.Reading.{readingNak}
 
 -- ---- where the requests start, and a NAK made of its parts
 
-pub area-is : (h : PduHeader) (a w : ℕ) → a ≡ headerLength h → w ≡ offsetWidth (h .file) → a + 1 + 2 * w ≡ areaStart h
+pub area-is : (h : PduHeader) (a w : ℕ) → a ≡ headerLength h → w ≡ sizeWidth (h .file) → a + 1 + 2 * w ≡ areaStart h
 unfolding areaStart
 area-is h a w p q = rw (p, q)
 
-pub nak-is : (h : PduHeader) (p : List ℕ) (a w e x y : ℕ) → a ≡ headerLength h → w ≡ offsetWidth (h .file) → e ≡ dataEnd h
-    → x ≡ numberAt p (a + 1) (offsetWidth (h .file)) → y ≡ numberAt p (a + 1 + w) (offsetWidth (h .file))
-    → record { header = h; start = x; end = y; area = a + 1 + 2 * w; stop = e; count = (e - (a + 1 + 2 * w)) / (2 * w) } ≡ nakIn h p
-unfolding nakIn areaStart
-nak-is h p a w e x y pa pw pe px py = rw (px, py, pe, pa, pw)
+pub nak-is : (h : PduHeader) (content : List ℕ) (area stop w x y : ℕ) → area ≡ areaStart h → stop ≡ dataEnd h → area ≤ stop → headerLength h + length content ≡ stop → w ≡ sizeWidth (h .file)
+    → x ≡ beAt content 1 (sizeWidth (h .file)) → y ≡ beAt content (1 + w) (sizeWidth (h .file))
+    → record { header = h; start = x; end = y; area = area; stop = stop; count = (stop - area) / (2 * w) } ≡ nakIn h content
+unfolding nakIn
+nak-is h content area stop w x y pb pe before size pw px py =
+    let W = sizeWidth (h .file) in
+    let long : 1 + 2 * W ≤ length content = omega (arith, sym (area-is h (headerLength h) W refl refl)) in
+    let px′ : x ≡ numberAt content 1 W = px ∙ at-number content 1 W (size-high (h .file)) (omega arith) in
+    let py′ : y ≡ numberAt content (1 + W) W = py ∙ ap (λ (n : ℕ). beAt content (1 + n) W) pw ∙ at-number content (1 + W) W (size-high (h .file)) (omega arith) in
+    rw (px′, py′, pb, pe, pw)
 
--- ---- the last test
+-- ---- what is tested behind the code
 
-module _ (h : PduHeader) (p s : List ℕ) (e b : ℕ) (pe : e ≡ dataEnd h) (pb : b ≡ areaStart h) where
-  pub scope-short : e < b → told (6 ∷ e ∷ b ∷ []) ≡ run (readingScope h p) s
-  unfolding told readingScope
-  scope-short l = rw (← pe, ← pb, lt-ltb _ _ l)
+abbrev pub readTests : PduHeader → List ℕ → List Test
+readTests h content = dataShort (dataEnd h) (areaStart h) ∷ []
 
-  pub scope-whole : b ≤ e → accepted (nakIn h p) ≡ run (readingScope h p) s
-  unfolding readingScope
-  scope-whole l = rw (← pe, ← pb, le-ltb _ _ l)
+module _ (s : List ℕ) where
+  pub refused-pdu : (ns : List ℕ) → told ns ≡ run (readingOwn nakCode) s → told ns ≡ run readingNak s
+  unfolding readingNak
+  refused-pdu ns e = refused-own nakCode readTests nakIn s ns e
 
--- ---- the directive
+  module _ (d : DirectivePdu) (e : accepted d ≡ run (readingOwn nakCode) s) (a : ℕ) (pa : a ≡ headerLength (d .header)) where
+    pub lies : OwnRead (d .header) s (d .stop) a
+    lies = read-own nakCode readTests nakIn s d a e pa .0
 
-module _ (h : PduHeader) (p s : List ℕ) (a c : ℕ) (pa : a ≡ headerLength h) (pc : c ≡ getD p a 0) where
-  pub unknown-code : isKnown c ≡ false → told (7 ∷ c ∷ []) ≡ run (readingDirective h p) s
-  unfolding told readingDirective
-  unknown-code k = rw (← pa, ← pc, k)
+    module _ (area : ℕ) (pb : area ≡ areaStart (d .header)) where
+      abbrev the-nak : Nak
+      the-nak = nakIn (d .header) (take (d .stop - a) (drop a s))
 
-  module _ (k : isKnown c ≡ true) where
-    pub other-code : eqb c 8 ≡ false → told (8 ∷ c ∷ []) ≡ run (readingDirective h p) s
-    unfolding told readingDirective
-    other-code n = rw (← pa, ← pc, k, n)
+      abbrev test : List Test
+      test = dataShort (d .stop) area ∷ []
 
-    pub nak-code : (t : List ℕ) → eqb c 8 ≡ true → run (readingScope h p) t ≡ run (readingDirective h p) s
-    unfolding readingDirective readingScope
-    nak-code t n = rw (← pa, ← pc, k, n)
+      decides : firstOf test the-nak ≡ run readingNak s
+      unfolding readingNak
+      decides = ap₂ (λ (x y : ℕ). firstOf (dataShort x y ∷ []) the-nak) (lies .stop-is) pb ∙ read-own nakCode readTests nakIn s d a e pa .1
 
--- ---- what the layer below refuses is refused, and behind what it accepts the next stages decide
+      pub scope-short : (ns : List ℕ) → told ns ≡ allOf test → told ns ≡ run readingNak s
+      scope-short ns f = refused-on ns test [] tt the-nak f ∙ decides
 
-pub refused-pdu : (s ns : List ℕ) → told ns ≡ run readingDirectivePdu s → told ns ≡ run readingNak s
-unfolding readingNak readingData
-refused-pdu s ns e = pdu-refused readingDirective s ns e
+      module _ (f : accepted tt ≡ allOf test) where
+        pub scope-there : area ≤ d .stop
+        scope-there = ltb-false _ _ (judged-passed test f .0)
 
-pub read-pdu : (s : List ℕ) (d : DirectivePdu) → accepted d ≡ run readingDirectivePdu s
-    → VerifiedDirective (d .header) s (d .end) × (run (readingDirective (d .header) (take (pduLength (d .header)) s)) s ≡ run readingNak s)
-unfolding readingNak readingData
-read-pdu s d e = pdu-read readingDirective s d e
-
-pub read-header : (h : PduHeader) (s : List ℕ) → accepted h ≡ run readingHeader s → run (readingData h) s ≡ run readingNak s
-unfolding readingNak
-read-header h s e = accepted-bind readingHeader readingData s h e
+        pub nak-read : (n : Nak) → n ≡ the-nak → accepted n ≡ run readingNak s
+        nak-read n p = ap accepted p ∙ sym (all-passed test the-nak (judged-passed test f)) ∙ decides

@@ -1,175 +1,190 @@
--- Reserving and finishing: the answer at each exit, that what can be finished could be written, and what finishing leaves in the buffer.
+-- Reserving and finishing: the answer at each exit, what finishing leaves in the buffer, and that what was reserved, filled and finished was written.
 -- Assumes nothing.
-use Prim.Native.Nat.{ℕ, _*_, _/_, _≤_, _<_}
-use mathlib.Core.Path.{_≡_, sym, ap, _∙_}
-use mathlib.Core.Bool.{true, false}
-use mathlib.Core.List.{List, [], _∷_, _++_, append-nil}
+use Prim.Native.Nat.{ℕ, _+_, _-_, _*_, _/_, _%_, _≤_}
+use mathlib.Core.Path.{_≡_, refl, sym, ap, ap₂, subst, _∙_}
+use mathlib.Core.List.{List, [], _∷_, _++_, append-assoc}
+use native.Mathlib.Nat.{zero-add}
 use native.Mathlib.Omega.{arith}
-use lib.ListN.{length}
-use lib.Seq.{sets}
-use borrow.Author.Tests.{lt-ltb, le-ltb, ltb-false, not-false}
-use Rattle.fields.specs.Answer.{Answer, accepted, told, andThen, Test, firstOf, leaves}
-use Rattle.fields.proofs.Judging.{Passed, passed, all-passed, passed-first, passed-last, passed-on, refused-on}
+use lib.ListN.{length, take, drop, length-append, length-drop}
+use lib.Seq.{sets, length-sets, length-take-le}
+use borrow.Author.Tests.{eq-eqb}
+use Rattle.fields.specs.Answer.{Answer, accepted, told, andThen, Test, firstOf}
+use Rattle.fields.proofs.BigEndian.{then-sets, sets-append}
+use Rattle.fields.proofs.Judging.{Passed, same-accepted, went, refused-then, accepted-then}
 use Rattle.header.specs.declared.PduHeader.{PduHeader}
-use Rattle.header.specs.Header.{headerLength, pduLength, dataEnd}
-use Rattle.header.specs.Directive.{directiveTests, judgingDirective, noRoom, writingDirective, directiveMemory}
+use Rattle.header.specs.declared.pdu.PduWritten.{PduWritten}
 use Rattle.header.specs.declared.flags.LargeFileFlag.{LargeFileFlag}
-use Rattle.header.specs.Verifying.{crcAdded}
-use Rattle.header.proofs.Directives.{refused-directive, begun-length}
-use Rattle.nak.specs.declared.write.NakWritten.{NakWritten}
+use Rattle.header.specs.Header.{headerLength, headerBytes, pduLength, dataEnd, crcLength, withLength}
+use Rattle.header.specs.Size.{sizeWidth}
+use Rattle.header.specs.Pdu.{pduOver, writingPdu, beginning, begunMemory, sealedMemory}
+use Rattle.header.proofs.Writing.{header-length}
+use Rattle.header.proofs.Verifying.{pdu-sum, end-sum}
+use Rattle.header.proofs.Pdus.{written-has, passes, memory-has, begins, write-refused, begun-passed, begun-header, begun-sets, write-done}
 use Rattle.nak.specs.declared.reserve.ReservedNak.{ReservedNak}
-use Rattle.nak.specs.Nak.{areaStart}
-use Rattle.nak.specs.Writing.{nakOver, mostPairs, filled, scopeFits, tooMany, scopeBytes, judgingNak, intoRoom, writingNak}
-use Rattle.nak.specs.Reserving.{pairTests, keeping, placed, reserving, ownFinish, finishTests, finishing, areaIn, finishedMemory}
-use Rattle.nak.specs.Within.{lengthInto}
-use Rattle.nak.proofs.Writing.{handed-back, around, own-pass, judged-nak, into-room, length-into, length-passed, begun-into, refused-by-tests, refused-by-header, begun-sets, ToWrite, to-write, area-before, stored-around}
-
--- ---- the judgement of the pairs
-
-module _ (h : PduHeader) (n : ℕ) where
-  abbrev judged-pairs-as : Answer ℕ
-  judged-pairs-as = firstOf (pairTests h n) (headerLength h)
-
-  pub refused-pairs : (ns : List ℕ) → told ns ≡ judgingDirective h → told ns ≡ judged-pairs-as
-  unfolding pairTests
-  refused-pairs ns e = refused-directive h _ _ ns e
-
-  module _ (good : Passed (directiveTests h)) (most : ℕ) (pm : most ≡ mostPairs (h .file)) where
-    rest : judged-pairs-as ≡ firstOf (tooMany (h .file) n ∷ []) (headerLength h)
-    unfolding pairTests
-    rest = passed-on (directiveTests h) _ _ good
-
-    pub many-pairs : most < n → told (10 ∷ n ∷ most ∷ []) ≡ judged-pairs-as
-    unfolding told
-    many-pairs l = rw (rest, ← pm, lt-ltb _ _ l)
-
-    pub judged-pairs : n ≤ most → accepted (headerLength h) ≡ judged-pairs-as
-    judged-pairs l = rw (rest, ← pm, le-ltb _ _ l)
-
-  -- what passed has no more pairs than fit
-  few-pairs : Passed (pairTests h n) → n ≤ mostPairs (h .file)
-  unfolding pairTests
-  few-pairs p = ltb-false _ _ (passed-last (directiveTests h) (tooMany (h .file) n ∷ []) p .0)
-
-  module _ (m : ℕ) (e : accepted m ≡ judged-pairs-as) where
-    pub pairs-passed : Passed (pairTests h n)
-    pairs-passed = passed (pairTests h n) m (headerLength h) e .0
-
-    pub pairs-fit : n ≤ mostPairs (h .file)
-    pairs-fit = few-pairs pairs-passed
+use Rattle.nak.specs.Nak.{pairSize, areaStart}
+use Rattle.nak.specs.Writing.{numbersBytes, scopeBytes, nakData, dataLength, filled, scopeTooLarge, tooMany, ownTests, writingNak, nakMemory}
+use Rattle.nak.specs.Reserving.{keeping, placed, reserving, finishTests, finishing, areaIn, finishedMemory}
+use Rattle.nak.specs.Demands.{Written, FinishedIsWritten}
+use Rattle.nak.specs.Within.{towardsSender}
+use Rattle.nak.proofs.Tests.{finish-fits}
+use Rattle.nak.proofs.Storing.{scope-length, data-length, in-place}
 
 -- ---- reserving
 
 pub place-is : (h : PduHeader) (n a e : ℕ) → a ≡ areaStart h → e ≡ dataEnd h → record { header = h; count = n; area = a; stop = e } ≡ placed h n
 place-is h n a e p q = rw (p, q)
 
-module _ (h : PduHeader) (n room : ℕ) where
-  abbrev tests : List Test
-  tests = pairTests h n ++ (noRoom room (keeping h n) ∷ [])
+module _ (h : PduHeader) (n room : ℕ) (k : PduHeader) (pk : k ≡ towardsSender (h .file) h) (o : Answer ℕ) (own : o ≡ firstOf (tooMany (h .file) n ∷ []) (dataLength (h .file) (h .crc) n)) where
+  judged : beginning k o room ≡ writingPdu (keeping h n) (tooMany (h .file) n ∷ []) room
+  unfolding filled
+  judged = ap₂ (λ (x : PduHeader) (y : Answer ℕ). beginning x y room) pk own ∙ begins (towardsSender (h .file) h) (tooMany (h .file) n ∷ []) (dataLength (h .file) (h .crc) n) room
 
-  pub refused-reserve : (ns : List ℕ) → told ns ≡ lengthInto (pairTests h n) (keeping h n) room → told ns ≡ reserving h n room
-  unfolding lengthInto reserving
-  refused-reserve ns e = rw (append-nil tests) at (refused-on ns tests [] _ (placed (keeping h n) n) e)
+  pub not-reserved : (ns : List ℕ) → told ns ≡ beginning k o room → told ns ≡ reserving h n room
+  unfolding reserving
+  not-reserved ns e = refused-then _ (λ w. accepted (placed (w .header) n)) ns (e ∙ judged)
 
-  module _ (v : ℕ) (e : accepted v ≡ lengthInto (pairTests h n) (keeping h n) room) where
-    pub reserve-fits : n ≤ mostPairs (h .file)
-    reserve-fits = few-pairs h n (length-passed (pairTests h n) (keeping h n) room v e)
-
-    pub reserved-is : (k : PduHeader) (r : ReservedNak) → k ≡ keeping h n → r ≡ placed k n → accepted r ≡ reserving h n room
-    unfolding lengthInto reserving
-    reserved-is k r p q =
-        ap accepted (q ∙ ap (λ (x : PduHeader). placed x n) p) ∙ sym (all-passed tests (placed (keeping h n) n) (passed tests v (pduLength (keeping h n)) e .0))
+  pub reserved-is : (w : PduWritten) (r : ReservedNak) → accepted w ≡ beginning k o room → r ≡ placed (w .header) n → accepted r ≡ reserving h n room
+  unfolding reserving
+  reserved-is w r e p = ap accepted p ∙ accepted-then _ (λ w. accepted (placed (w .header) n)) w (e ∙ judged)
 
 -- ---- finishing
 
--- finishing's own tests
-module _ (file : LargeFileFlag) (n start end : ℕ) where
-  abbrev own-as : Answer ℕ
-  own-as = firstOf (ownFinish file n start end) n
+-- the request bytes end with the data
+area-size : (h : PduHeader) (n : ℕ) → areaStart (keeping h n) + n * pairSize (h .file) ≡ dataEnd (keeping h n)
+unfolding areaStart filled dataLength
+area-size h n = omega (arith, end-sum (keeping h n), pdu-sum (keeping h n))
 
-  module _ (most : ℕ) (pm : most ≡ mostPairs file) where
-    pub many-finish : most < n → told (10 ∷ n ∷ most ∷ []) ≡ own-as
-    unfolding told ownFinish
-    many-finish l = rw (← pm, lt-ltb _ _ l)
+module _ (r : ReservedNak) (start end : ℕ) (s : List ℕ) (k : PduHeader) (pk : k ≡ towardsSender (r .header .file) (r .header)) (o : Answer ℕ)
+    (own : o ≡ firstOf (finishTests (r .header .file) (r .count) start end) (dataLength (r .header .file) (r .header .crc) (r .count))) where
+  abbrev h : PduHeader
+  h = r .header
 
-    module _ (l : n ≤ most) where
-      pub scope-finish : scopeFits file start end ≡ false → told (9 ∷ start ∷ end ∷ []) ≡ own-as
-      unfolding told ownFinish
-      scope-finish s = rw (← pm, le-ltb _ _ l, s)
+  abbrev n : ℕ
+  n = r .count
 
-      pub none-finish : scopeFits file start end ≡ true → accepted n ≡ own-as
-      unfolding ownFinish
-      none-finish s = rw (← pm, le-ltb _ _ l, s)
+  abbrev G : PduHeader
+  G = towardsSender (h .file) h
 
--- what they accept
-module _ (file : LargeFileFlag) (n start end m : ℕ) (e : accepted m ≡ firstOf (ownFinish file n start end) n) where
-  own-passed : Passed (ownFinish file n start end)
-  own-passed = passed (ownFinish file n start end) m n e .0
+  abbrev T : List Test
+  T = finishTests (h .file) n start end
 
-  finish-pairs : m ≡ n
-  finish-pairs = passed (ownFinish file n start end) m n e .1
+  abbrev d : ℕ
+  d = dataLength (h .file) (h .crc) n
 
-  pub finish-scope : scopeFits file start end ≡ true
-  unfolding ownFinish
-  finish-scope = not-false _ (own-passed .1 .0)
+  abbrev content : List ℕ
+  content = nakData (h .file) start end (areaIn (keeping h n) s)
 
-  pub finish-fits : m ≤ mostPairs file
-  unfolding ownFinish
-  finish-fits = rw finish-pairs (ltb-false _ _ (own-passed .0))
+  pub not-finished : (b ns : List ℕ) → told ns ≡ beginning k o (length s) → b ≡ begunMemory k o s → (told ns ≡ finishing r start end (length s)) × (b ≡ finishedMemory r start end s)
+  unfolding finishing finishedMemory filled
+  not-finished b ns p q = write-refused k G pk T d o own s content b ns p q
 
--- and the header that goes on from it
-module _ (h : PduHeader) (n start end m : ℕ) (own : accepted m ≡ firstOf (ownFinish (h .file) n start end) n) (k : PduHeader) (p : k ≡ keeping h m) where
-  kept : k ≡ keeping h n
-  kept = p ∙ ap (keeping h) (finish-pairs (h .file) n start end m own)
+  module _ (w : PduWritten) (b : List ℕ) (p : accepted w ≡ beginning k o (length s)) (q : b ≡ begunMemory k o s) where
+    header-is : w .header ≡ keeping h n
+    unfolding filled
+    header-is = begun-header k G pk T d o own s w b p q
 
--- what can be finished could be written, with as many pairs lent
-pub finish-writes : (r : ReservedNak) (start end room : ℕ) (w : NakWritten) → accepted w ≡ finishing r start end room
+    stored : b ≡ sets s 0 (headerBytes (w .header))
+    stored = begun-sets k G pk T d o own s w b p q
+
+    flag : w .header .file ≡ h .file
+    unfolding filled
+    flag = ap (λ (x : PduHeader). x .file) header-is
+
+    room : pduLength (w .header) ≤ length s
+    unfolding filled
+    room = rw header-is (written-has (keeping h n) T (length s) w (sym (p ∙ ap₂ (λ (x : PduHeader) (y : Answer ℕ). beginning x y (length s)) pk own ∙ begins G T d (length s))) .room-is)
+
+    ends : areaStart (w .header) + n * pairSize (h .file) ≡ dataEnd (w .header)
+    ends = rw header-is (area-size h n)
+
+    within : areaStart (w .header) + n * pairSize (h .file) ≤ length s
+    within = omega (arith, ends, end-sum (w .header), room)
+
+    area-there : areaStart (w .header) ≡ headerLength (w .header) + (1 + 2 * sizeWidth (h .file))
+    unfolding areaStart
+    area-there = ap (λ (f : LargeFileFlag). headerLength (w .header) + 1 + 2 * sizeWidth f) flag ∙ omega arith
+
+    pub finish-goes : (areaStart (w .header) ≤ length b) × Passed (scopeTooLarge (w .header .file) start end ∷ [])
+    finish-goes =
+        (omega (arith, within, ap length stored ∙ length-sets s 0 (headerBytes (w .header))), rw flag (finish-fits (h .file) n start end (begun-passed k G pk T d o own s w b p q) .1))
+
+    -- the area of the header that is handed back
+    area : areaIn (keeping h n) s ≡ take (n * pairSize (h .file)) (drop (areaStart (w .header)) s)
+    unfolding areaIn
+    area =
+        let e : dataEnd (keeping h n) - areaStart (keeping h n) ≡ n * pairSize (h .file) = omega (arith, area-size h n) in
+        ap₂ (λ (x : ℕ) (y : PduHeader). take x (drop (areaStart y) s)) e (sym header-is)
+
+    area-long : length (areaIn (keeping h n) s) ≡ n * pairSize (h .file)
+    area-long = ap length area ∙ length-take-le (n * pairSize (h .file)) (drop (areaStart (w .header)) s) (omega (arith, length-drop (areaStart (w .header)) s, within))
+
+    size : length content + crcLength (h .crc) ≡ d
+    unfolding dataLength
+    size = omega (arith, data-length (h .file) start end (areaIn (keeping h n) s), area-long)
+
+    -- header and scope were stored, and the request bytes stand behind them
+    around : (b₁ : List ℕ) → b₁ ≡ sets b (headerLength (w .header)) (scopeBytes (w .header .file) start end) → b₁ ≡ sets b (headerLength (w .header)) content
+    unfolding nakData
+    around b₁ q₁ =
+        let H = headerBytes (w .header) in
+        let S = scopeBytes (h .file) start end in
+        let A = areaIn (keeping h n) s in
+        let a = headerLength (w .header) in
+        let lH : length H ≡ a = header-length (w .header) in
+        let lHS : length (H ++ S) ≡ areaStart (w .header) = length-append H S ∙ omega (arith, lH, scope-length (h .file) start end, area-there) in
+        let e₁ : b₁ ≡ sets s 0 (H ++ S) = then-sets H S s a lH stored (q₁ ∙ ap (λ (f : LargeFileFlag). sets b a (scopeBytes f start end)) flag) in
+        let e₂ : sets s 0 (H ++ S) ≡ sets s 0 ((H ++ S) ++ A) =
+        in-place (H ++ S) s (n * pairSize (h .file)) (omega (arith, lHS, within)) ∙ ap (λ (x : List ℕ). sets s 0 ((H ++ S) ++ x)) (ap (λ (j : ℕ). take (n * pairSize (h .file)) (drop j s)) lHS ∙ sym area) in
+        let e₃ : sets s 0 (H ++ (S ++ A)) ≡ sets b a (S ++ A) = sets-append H (S ++ A) s 0 ∙ ap₂ (λ (l : List ℕ) (i : ℕ). sets l i (S ++ A)) (sym stored) (zero-add (length H) ∙ lH) in
+        e₁ ∙ e₂ ∙ ap (sets s 0) (append-assoc H S A) ∙ e₃
+
+    pub finished : (b₁ b₂ : List ℕ) → b₁ ≡ sets b (headerLength (w .header)) (scopeBytes (w .header .file) start end) → b₂ ≡ sealedMemory (w .header) b₁
+        → (accepted w ≡ finishing r start end (length s)) × (b₂ ≡ finishedMemory r start end s)
+    unfolding finishing finishedMemory filled
+    finished b₁ b₂ q₁ e₂ = write-done k G pk T d o own s w b p q content size (headerLength (w .header)) refl b₁ b₂ (around b₁ q₁) e₂
+
+-- ---- what can be finished could be written, with as many pairs lent
+
+pub finish-writes : (r : ReservedNak) (start end room : ℕ) (w : PduWritten) → accepted w ≡ finishing r start end room
     → accepted w ≡ writingNak (r .header .file) (r .header) start end (2 * r .count) room
-unfolding finishing finishTests intoRoom ownFinish
+unfolding finishing writingNak finishTests ownTests
 finish-writes r start end room w e =
     let h = r .header in
     let n = r .count in
     let k = keeping h n in
-    let own = ownFinish (h .file) n start end in
-    let p = passed ((directiveTests h ++ own) ++ (noRoom room k ∷ [])) w (record { header = k; length = pduLength k }) e in
-    let q = passed-first (directiveTests h ++ own) (noRoom room k ∷ []) (p .0) in
-    let l = passed-last (directiveTests h ++ own) (noRoom room k ∷ []) (p .0) in
-    let g = passed-first (directiveTests h) own q in
-    let u = passed-last (directiveTests h) own q in
+    let p = written-has k (finishTests (h .file) n start end) room w (sym e) in
     let half : (2 * n) / 2 ≡ n = omega arith in
-    let few : n ≤ mostPairs (h .file) = ltb-false _ _ (u .0) in
-    let own-tests = own-pass (h .file) start end (2 * n) (omega arith) (not-false _ (u .1 .0)) (rw half few) in
-    let j : accepted k ≡ judgingNak (h .file) h start end (2 * n) = ap (λ (x : ℕ). accepted (filled (h .file) x h)) (sym half) ∙ judged-nak (h .file) h start end (2 * n) g own-tests in
-    ap accepted (p .1) ∙ sym (passed-on (noRoom room k ∷ []) [] (record { header = k; length = pduLength k }) l) ∙ into-room (h .file) h start end (2 * n) room k j
+    let even : (2 * n) % 2 ≡ 0 = omega arith in
+    let own : Passed (ownTests (h .file) start end (2 * n)) = (rw (eq-eqb _ _ even), (p .own-passed .1 .0, (rw half (p .own-passed .0), tt))) in
+    ap accepted (p .handed-back) ∙ passes k (ownTests (h .file) start end (2 * n)) room (p .good) own (p .room-is) ∙ ap (λ (m : ℕ). writingPdu (filled (h .file) m h) (ownTests (h .file) start end (2 * n)) room) (sym half)
 
--- ---- what finishing leaves in the buffer
+-- of the record that reserving made
+placed-written : (h : PduHeader) (n start end : ℕ) (numbers s : List ℕ) (w : PduWritten) → length numbers ≡ 2 * n
+    → areaIn (keeping h n) s ≡ numbersBytes (sizeWidth (h .file)) numbers → finishing (placed (keeping h n) n) start end (length s) ≡ accepted w
+    → Written h start end numbers s (placed (keeping h n) n) w
+unfolding finishedMemory nakMemory writingNak finishing filled
+placed-written h n start end numbers s w e f q =
+    let k = keeping h n in
+    let half : length numbers / 2 ≡ n = ap (λ (j : ℕ). j / 2) e ∙ omega arith in
+    let a : accepted w ≡ writingPdu k (ownTests (h .file) start end (2 * n)) (length s) =
+    finish-writes (placed k n) start end (length s) w (sym q) ∙ ap (λ (m : ℕ). writingPdu (filled (h .file) m h) (ownTests (h .file) start end (2 * n)) (length s)) (omega arith) in
+    let b : accepted w ≡ writingNak (h .file) h start end (length numbers) (length s) = a ∙ ap₂ (λ (m c : ℕ). writingPdu (filled (h .file) m h) (ownTests (h .file) start end c) (length s)) (sym half) (sym e) in
+    let c : nakData (h .file) start end (areaIn k s) ≡ nakData (h .file) start end (numbersBytes (sizeWidth (h .file)) numbers) = ap (nakData (h .file) start end) f in
+    record {
+      answer = sym b;
+      bytes =
+          memory-has k (finishTests (h .file) n start end) (nakData (h .file) start end (areaIn k s)) s w q
+          ∙ ap (λ (x : List ℕ). pduOver (w .header) x ++ drop (length (pduOver (w .header) x)) s) c
+          ∙ sym (memory-has (filled (h .file) (length numbers / 2) h) (ownTests (h .file) start end (length numbers)) _ s w (sym b));
+    }
 
-pub not-own : (r : ReservedNak) (start end : ℕ) (s ns : List ℕ) (o : Answer NakWritten) → told ns ≡ firstOf (ownFinish (r .header .file) (r .count) start end) (r .count)
-    → o ≡ andThen (judgingDirective (r .header)) (λ _. told ns) → (o ≡ finishing r start end (length s)) × (s ≡ finishedMemory r start end s)
-unfolding finishing finishedMemory finishTests
-not-own r start end s ns o e q = refused-by-tests (ownFinish (r .header .file) (r .count) start end) _ (r .header) _ _ s ns o e q
-
-module _ (r : ReservedNak) (start end m : ℕ) (s : List ℕ) (own : accepted m ≡ firstOf (ownFinish (r .header .file) (r .count) start end) (r .count)) (k : PduHeader) (p : k ≡ keeping (r .header) m) where
-  abbrev h : PduHeader
-  h = r .header
-
-  pub not-header : (b ns : List ℕ) → told ns ≡ writingDirective k (length s) → b ≡ directiveMemory k s → (told ns ≡ finishing r start end (length s)) × (b ≡ finishedMemory r start end s)
-  unfolding finishing finishedMemory finishTests
-  not-header b ns e q =
-      refused-by-header (ownFinish (h .file) (r .count) start end) (h .file) (r .count) h k _ s b ns (kept h (r .count) start end m own k p) (own-passed (h .file) (r .count) start end m own) e q
-
-  module _ (v : ℕ) (b : List ℕ) (e : accepted v ≡ writingDirective k (length s)) (q : b ≡ directiveMemory k s) where
-    -- the NAK around the requests
-    pub finished : (d : ℕ) (b₁ b₂ : List ℕ) → b₁ ≡ sets b (headerLength k) (scopeBytes k start end) → d ≡ dataEnd k → b₂ ≡ crcAdded (k .crc) d b₁
-        → (accepted (record { header = k; length = v }) ≡ finishing r start end (length s)) × (b₂ ≡ finishedMemory r start end s)
-    unfolding finishedMemory finishing finishTests around
-    finished d b₁ b₂ q₁ pd e₂ =
-        let n = r .count in
-        let f : accepted (handed-back k) ≡ finishing r start end (length s) =
-        length-into (directiveTests h ++ ownFinish (h .file) n start end) (keeping h n) (length s) v k (e ∙ begun-into (ownFinish (h .file) n start end) (h .file) n h k (length s) (kept h n start end m own k p) (own-passed (h .file) n start end m own)) (kept h n start end m own k p) in
-        let z = to-write (h .file) h start end (2 * n) (length s) (handed-back k) (finish-writes r start end (length s) (handed-back k) f) in
-        let before : areaStart k ≤ dataEnd k = omega (arith, area-before (h .file) h start end (2 * n) (length s) (handed-back k) z) in
-        let a : b₂ ≡ around k start end s = stored-around k start end d s b₁ b₂ before (z .room-is) pd (begun-sets k start end v s b e q b₁ q₁) e₂ in (
-          ap (λ (x : ℕ). accepted (record { header = k; length = x })) (begun-length k (length s) v e) ∙ f,
-          a ∙ ap (λ (o : Answer NakWritten). leaves o (λ (x : NakWritten). nakOver (x .header) start end (areaIn (x .header) s)) s) f,
-        )
+pub finished-is-written : FinishedIsWritten
+unfolding reserving areaIn
+finished-is-written h n room start end numbers s r w e l =
+    let p = went (writingPdu (keeping h n) (tooMany (h .file) n ∷ []) room) _ r (sym e) in
+    let m = written-has (keeping h n) (tooMany (h .file) n ∷ []) room (p .mid) (sym (p .first)) in
+    let is : r ≡ placed (keeping h n) n = same-accepted _ _ (p .second) ∙ ap (λ (x : PduWritten). placed (x .header) n) (m .handed-back) in
+    subst
+    (λ (x : ReservedNak). take (x .stop - x .area) (drop (x .area) s) ≡ numbersBytes (sizeWidth (h .file)) numbers → finishing x start end (length s) ≡ accepted w → Written h start end numbers s x w)
+    (sym is)
+    (λ f q. placed-written h n start end numbers s w l f q)

@@ -1,7 +1,7 @@
 -- The request area and the cursor, once for both file flags: walking from the start shows exactly the pairs, and then the end for ever.
 -- Assumes nothing.
 use Prim.Native.Nat.{ℕ, zero, suc, _+_, _-_, _*_, _/_, _≤_, _<_}
-use mathlib.Core.Path.{_≡_, refl, sym, ap}
+use mathlib.Core.Path.{_≡_, refl, sym, ap, _∙_}
 use mathlib.Core.Bool.{Bool, true, false}
 use mathlib.Core.List.{List, [], _∷_}
 use native.Mathlib.Omega.{arith}
@@ -10,7 +10,8 @@ use lib.Dec.{lit<, leb}
 use lib.ListN.{length, take, drop}
 use borrow.Author.Tests.{le-leb, lt-leb, leb-false, eq-eqb, ne-eqb}
 use Rattle.fields.specs.Choice.{if_then_else_}
-use Rattle.fields.specs.BigEndian.{numberAt}
+use Rattle.fields.specs.BigEndian.{numberAt, beAt}
+use Rattle.fields.proofs.BigEndian.{at-number}
 use Rattle.header.specs.declared.flags.LargeFileFlag.{LargeFileFlag}
 use Rattle.header.specs.declared.flags.LargeFileFlag.the-variants.{Normal, Large}
 use Rattle.nak.specs.declared.Nak.{Nak}
@@ -18,7 +19,9 @@ use Rattle.nak.specs.declared.requests.NextRequest.{NextRequest}
 use Rattle.nak.specs.declared.requests.NextRequest.the-variants.{Pair, End}
 use Rattle.nak.specs.declared.requests.RequestsStart.{RequestsStart}
 use Rattle.nak.specs.declared.requests.RequestsStart.the-variants.{From, Nothing}
-use Rattle.nak.specs.Nak.{offsetWidth, pairSize}
+use Rattle.header.specs.Size.{sizeWidth}
+use Rattle.header.proofs.Sizes.{size-high}
+use Rattle.nak.specs.Nak.{pairSize}
 use Rattle.nak.specs.Requests.{areaOf, pairsFrom, pairsOf, nextRequest, requestsOf, walk}
 use Rattle.nak.specs.Demands.{WalkShowsPairs, EndForEver}
 
@@ -47,35 +50,37 @@ module _ (n : Nak) (s : List ℕ) where
 
 -- ---- one step
 
-pub next-pair : (a : List ℕ) (file : LargeFileFlag) (at w x y : ℕ) → w ≡ offsetWidth file → at + 2 * w ≤ length a → x ≡ numberAt a at (offsetWidth file) → y ≡ numberAt a (at + w) (offsetWidth file)
+pub next-pair : (a : List ℕ) (file : LargeFileFlag) (at w x y : ℕ) → w ≡ sizeWidth file → at + 2 * w ≤ length a → x ≡ beAt a at (sizeWidth file) → y ≡ beAt a (at + w) (sizeWidth file)
     → Pair x y (record { at = at + 2 * w }) ≡ nextRequest a file at
 unfolding nextRequest
 next-pair a file at w x y e l p q =
-    let l′ : at + 2 * offsetWidth file ≤ length a = omega (arith, e) in
-    rw (p, q, e, le-leb _ _ l′)
+    let l′ : at + 2 * sizeWidth file ≤ length a = omega (arith, e) in
+    let p′ : x ≡ numberAt a at (sizeWidth file) = p ∙ at-number a at (sizeWidth file) (size-high file) (omega arith) in
+    let q′ : y ≡ numberAt a (at + w) (sizeWidth file) = q ∙ at-number a (at + w) (sizeWidth file) (size-high file) (omega (arith, e)) in
+    rw (p′, q′, e, le-leb _ _ l′)
 
-pub next-end : (a : List ℕ) (file : LargeFileFlag) (at w : ℕ) → w ≡ offsetWidth file → length a < at + 2 * w → End ≡ nextRequest a file at
+pub next-end : (a : List ℕ) (file : LargeFileFlag) (at w : ℕ) → w ≡ sizeWidth file → length a < at + 2 * w → End ≡ nextRequest a file at
 unfolding nextRequest
 next-end a file at w e l =
-    let l′ : length a < at + 2 * offsetWidth file = omega (arith, e) in
+    let l′ : length a < at + 2 * sizeWidth file = omega (arith, e) in
     rw (lt-leb _ _ l′)
 
 -- ---- the walk
 
 -- from a position with n whole pairs and no more, n steps or more show exactly those
 walk-from : (a : List ℕ) (file : LargeFileFlag) (n rounds at : ℕ) → n ≤ rounds → at + n * pairSize file ≤ length a → length a < at + n * pairSize file + pairSize file
-    → walk a file rounds at ≡ pairsFrom (offsetWidth file) a at n
+    → walk a file rounds at ≡ pairsFrom (sizeWidth file) a at n
 unfolding nextRequest
 walk-from a file zero zero at r h k = refl
 walk-from a file zero (suc rounds) at r h k =
-    let g : length a < at + 2 * offsetWidth file = omega arith in
+    let g : length a < at + 2 * sizeWidth file = omega arith in
     rw (lt-leb _ _ g)
 walk-from a file (suc n) zero at r h k = absurd (not-suc-le-zero r)
 walk-from a file (suc n) (suc rounds) at r h k =
-    let l : at + 2 * offsetWidth file ≤ length a = omega arith in
+    let l : at + 2 * sizeWidth file ≤ length a = omega arith in
     rw (le-leb _ _ l)
-    (ap (λ (m : List (ℕ × ℕ)). (numberAt a at (offsetWidth file), numberAt a (at + offsetWidth file) (offsetWidth file)) ∷ m)
-    (walk-from a file n rounds (at + 2 * offsetWidth file) (omega arith) (omega arith) (omega arith)))
+    (ap (λ (m : List (ℕ × ℕ)). (numberAt a at (sizeWidth file), numberAt a (at + sizeWidth file) (sizeWidth file)) ∷ m)
+    (walk-from a file n rounds (at + 2 * sizeWidth file) (omega arith) (omega arith) (omega arith)))
 
 pub size-positive : (file : LargeFileFlag) → 0 < pairSize file
 size-positive Normal = lit< tt
@@ -93,10 +98,10 @@ pub end-for-ever : EndForEver
 unfolding nextRequest
 end-for-ever a file at more e =
     let l : length a < at + pairSize file = no-pair (leb (at + pairSize file) (length a)) refl e in
-    sym (next-end a file (at + more) (offsetWidth file) refl (omega arith))
+    sym (next-end a file (at + more) (sizeWidth file) refl (omega arith))
   where
     no-pair : (c : Bool) → leb (at + pairSize file) (length a) ≡ c
-        → (if c then Pair (numberAt a at (offsetWidth file)) (numberAt a (at + offsetWidth file) (offsetWidth file)) (record { at = at + pairSize file }) else End) ≡ End
+        → (if c then Pair (numberAt a at (sizeWidth file)) (numberAt a (at + sizeWidth file) (sizeWidth file)) (record { at = at + pairSize file }) else End) ≡ End
         → length a < at + pairSize file
     no-pair true p d = let z : _≡_ {A = ℕ} 0 1 = cc in absurd (let b : ⊥ = omega arith in b)
     no-pair false p d = leb-false _ _ p
@@ -108,4 +113,4 @@ pairs-length w a at (suc n) = ap suc (pairs-length w a (at + 2 * w) n)
 -- an area has as many pairs as are whole in its length
 pub pairs-count : (file : LargeFileFlag) (a : List ℕ) → length (pairsOf file a) ≡ length a / pairSize file
 unfolding pairsOf
-pairs-count file a = pairs-length (offsetWidth file) a 0 (length a / pairSize file)
+pairs-count file a = pairs-length (sizeWidth file) a 0 (length a / pairSize file)

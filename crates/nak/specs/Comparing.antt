@@ -14,7 +14,7 @@ use Rattle.header.specs.Comparing.{sameHeader}
 use Rattle.nak.specs.declared.Nak.{Nak}
 use Rattle.nak.specs.declared.compare.CompareResult.{CompareResult}
 use Rattle.nak.specs.declared.compare.CompareResult.the-variants.{Equal, Different, Refused}
-use Rattle.nak.specs.Nak.{offsetWidth}
+use Rattle.header.specs.Size.{sizeWidth}
 use Rattle.nak.specs.Reading.{readingNak}
 use Rattle.nak.specs.Requests.{areaOf}
 use Rattle.nak.specs.Writing.{judgingNak}
@@ -38,4 +38,4 @@ unfoldable pub comparing : LargeFileFlag → PduHeader → ℕ → ℕ → List 
 comparing file h start end numbers s =
     andThen (run readingNak s) (λ n.
     andThen (judgingNak file h start end (length numbers)) (λ w.
-    accepted (sameNak n w start end && holdsNumbers (offsetWidth file) (areaOf n s) numbers)))
+    accepted (sameNak n w start end && holdsNumbers (sizeWidth file) (areaOf n s) numbers)))

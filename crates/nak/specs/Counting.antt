@@ -7,12 +7,11 @@ use lib.Dec.{ltb}
 use Rattle.fields.specs.Answer.{Answer, accepted, told, Test, when, firstOf}
 use Rattle.fields.specs.Refusal.{paper}
 use Rattle.header.specs.declared.PduHeader.{PduHeader}
-use Rattle.header.specs.Flags.{crcBit}
-use Rattle.header.specs.Header.{pduLength}
-use Rattle.header.specs.Directive.{directiveTests}
+use Rattle.header.specs.Header.{crcLength}
+use Rattle.header.specs.Pdu.{directiveTests, handedBack}
 use Rattle.nak.specs.declared.count.CountResult.{CountResult}
 use Rattle.nak.specs.declared.count.CountResult.the-variants.{Count, Refused}
-use Rattle.nak.specs.declared.write.NakWritten.{NakWritten}
+use Rattle.header.specs.declared.pdu.PduWritten.{PduWritten}
 use Rattle.nak.specs.Nak.{pairSize, areaStart}
 use Rattle.nak.specs.Writing.{mostPairs, filled, scopeFits, writingNak}
 
@@ -22,7 +21,7 @@ countAnswer (Refused r) = told (paper r)
 
 -- h + 1 + F, plus 2 with CRC: a NAK with no pair
 unfoldable pub leastPacket : PduHeader → ℕ
-leastPacket h = areaStart h + 2 * crcBit (h .crc)
+leastPacket h = areaStart h + crcLength (h .crc)
 
 -- 15: packet size below that
 abbrev pub packetTooSmall : PduHeader → ℕ → Test
@@ -39,13 +38,13 @@ mostRequests h size = firstOf (directiveTests h ++ (packetTooSmall h size ∷ []
 -- ---- what is proved of it
 
 -- a NAK of m pairs, of the width that the header's flag names, as the writer hands it back
-abbrev pub ofPairs : PduHeader → ℕ → NakWritten
-ofPairs h m = record { header = filled (h .file) m h; length = pduLength (filled (h .file) m h) }
+abbrev pub ofPairs : PduHeader → ℕ → PduWritten
+ofPairs h m = handedBack (filled (h .file) m h)
 
 -- in a buffer of that size, n pairs and every fewer are accepted by the writer, and no more
 pub record JustFit (h : PduHeader) (start end size n : ℕ) : Type 0 where
   pub fit : (m : ℕ) → m ≤ n → writingNak (h .file) h start end (2 * m) size ≡ accepted (ofPairs h m)
-  pub more : (m : ℕ) (w : NakWritten) → n < m → writingNak (h .file) h start end (2 * m) size ≡ accepted w → ⊥
+  pub more : (m : ℕ) (w : PduWritten) → n < m → writingNak (h .file) h start end (2 * m) size ≡ accepted w → ⊥
 
 -- 'this many are accepted by the writer in a buffer of the packet size, and one more is not, for scopes that fit and pairs of the width the header's flag names'
 abbrev pub MostRequestsFit : Type 0

@@ -6,8 +6,7 @@ use mathlib.Core.List.{List, [], _∷_, _++_, map}
 use lib.ListN.{length, getD, take, drop}
 use Rattle.fields.specs.Answer.{Answer, accepted}
 use Rattle.fields.specs.Staged.{run}
-use Rattle.fields.specs.Demand3.{Final, heard, Demand3}
-use Rattle.fields.specs.declared.refusal.Refusal.the-variants.{FromSliceTooSmall}
+use Rattle.fields.specs.Demand3.{heard, Demand3, CodeDemand3}
 use Rattle.header.specs.declared.PduHeader.{PduHeader}
 use Rattle.header.specs.declared.flags.CrcFlag.{CrcFlag}
 use Rattle.header.specs.declared.flags.LargeFileFlag.{LargeFileFlag}
@@ -16,17 +15,17 @@ use Rattle.header.specs.Demands.{SameFields}
 use Rattle.nak.specs.declared.Nak.{Nak}
 use Rattle.nak.specs.declared.NakResult.{NakResult}
 use Rattle.nak.specs.declared.NakResult.the-variants.{Nak as Read, Refused}
-use Rattle.nak.specs.declared.write.NakWritten.{NakWritten}
-use Rattle.nak.specs.declared.write.WriteResult.{WriteResult}
+use Rattle.header.specs.declared.pdu.PduWritten.{PduWritten}
 use Rattle.nak.specs.declared.reserve.ReservedNak.{ReservedNak}
 use Rattle.nak.specs.declared.reserve.ReserveResult.{ReserveResult}
 use Rattle.nak.specs.declared.compare.CompareResult.{CompareResult}
 use Rattle.nak.specs.declared.count.CountResult.{CountResult}
 use Rattle.nak.specs.declared.requests.NextRequest.the-variants.{End}
-use Rattle.nak.specs.Nak.{offsetWidth, pairSize, areaStart}
+use Rattle.header.specs.Size.{sizeWidth}
+use Rattle.nak.specs.Nak.{pairSize, areaStart}
 use Rattle.nak.specs.Reading.{nakAnswer, readingNak}
 use Rattle.nak.specs.Requests.{areaOf, pairsOf, nextRequest, walk}
-use Rattle.nak.specs.Writing.{writeAnswer, numbersBytes, nakBytes, dataLength, mostPairs, judgingNak, writingNak, nakMemory}
+use Rattle.nak.specs.Writing.{numbersBytes, nakBytes, dataLength, mostPairs, judgingNak, writingNak, nakMemory}
 use Rattle.nak.specs.Reserving.{reserveAnswer, reserving, finishing, finishedMemory}
 use Rattle.nak.specs.Counting.{countAnswer}
 use Rattle.nak.specs.Comparing.{compareAnswer, comparing}
@@ -73,7 +72,7 @@ readAs h start end n = record { header = h; start = start; end = end; area = are
 
 pub record ReadsBack (h : PduHeader) (start end : ℕ) (numbers s : List ℕ) : Type 0 where
   pub read : run readingNak s ≡ accepted (readAs h start end (length numbers / 2))
-  pub area : areaOf (readAs h start end (length numbers / 2)) s ≡ numbersBytes (offsetWidth (h .file)) numbers
+  pub area : areaOf (readAs h start end (length numbers / 2)) s ≡ numbersBytes (sizeWidth (h .file)) numbers
   pub pairs : pairsOf (h .file) (areaOf (readAs h start end (length numbers / 2)) s) ≡ byTurns numbers
 
 -- 'At most 8,190 normal or 4,094 large pairs fit, with or without CRC': so many do, and one more does not
@@ -87,31 +86,31 @@ MostPairsFit = (file : LargeFileFlag) (crc : CrcFlag) → MostFit file crc
 -- an accepted write, followed by anything, reads as accepted, with the header handed back, the scope and exactly the pairs
 abbrev pub WrittenReadsBack : Type 0
 WrittenReadsBack =
-    (file : LargeFileFlag) (h : PduHeader) (start end room : ℕ) (numbers t : List ℕ) (w : NakWritten) → Lent (offsetWidth file) numbers
+    (file : LargeFileFlag) (h : PduHeader) (start end room : ℕ) (numbers t : List ℕ) (w : PduWritten) → Lent 8 (start ∷ end ∷ []) → Lent (sizeWidth file) numbers
     → writingNak file h start end (length numbers) room ≡ accepted w → ReadsBack (w .header) start end numbers (nakBytes (w .header) start end numbers ++ t)
 
 -- the same of the code's own answer: what reading answers to the buffer that writing left, and the pairs there
 abbrev pub CodeReadsBack : Type 0
 CodeReadsBack =
-    (file : LargeFileFlag) (h : PduHeader) (start end : ℕ) (numbers s : List ℕ) (w : NakWritten) (r : NakResult) → Lent (offsetWidth file) numbers
+    (file : LargeFileFlag) (h : PduHeader) (start end : ℕ) (numbers s : List ℕ) (w : PduWritten) (r : NakResult) → Lent 8 (start ∷ end ∷ []) → Lent (sizeWidth file) numbers
     → writingNak file h start end (length numbers) (length s) ≡ accepted w → nakAnswer r ≡ run readingNak (nakMemory file h start end numbers s)
     → (r ≡ Read (readAs (w .header) start end (length numbers / 2))) × (pairsOf (w .header .file) (areaOf (readAs (w .header) start end (length numbers / 2)) (nakMemory file h start end numbers s)) ≡ byTurns numbers)
 
 -- a reserved NAK whose area was filled with the pairs' bytes and finished is the written NAK: the same answer, the same bytes
-pub record Written (h : PduHeader) (start end : ℕ) (numbers s : List ℕ) (r : ReservedNak) (w : NakWritten) : Type 0 where
+pub record Written (h : PduHeader) (start end : ℕ) (numbers s : List ℕ) (r : ReservedNak) (w : PduWritten) : Type 0 where
   pub answer : writingNak (h .file) h start end (length numbers) (length s) ≡ accepted w
   pub bytes : finishedMemory r start end s ≡ nakMemory (h .file) h start end numbers s
 
 abbrev pub FinishedIsWritten : Type 0
 FinishedIsWritten =
-    (h : PduHeader) (n room start end : ℕ) (numbers s : List ℕ) (r : ReservedNak) (w : NakWritten) → reserving h n room ≡ accepted r → length numbers ≡ 2 * n
-    → take (r .stop - r .area) (drop (r .area) s) ≡ numbersBytes (offsetWidth (h .file)) numbers → finishing r start end (length s) ≡ accepted w
+    (h : PduHeader) (n room start end : ℕ) (numbers s : List ℕ) (r : ReservedNak) (w : PduWritten) → reserving h n room ≡ accepted r → length numbers ≡ 2 * n
+    → take (r .stop - r .area) (drop (r .area) s) ≡ numbersBytes (sizeWidth (h .file)) numbers → finishing r start end (length s) ≡ accepted w
     → Written h start end numbers s r w
 
 -- comparing says yes on what was just written, whatever follows it
 abbrev pub ComparingSaysYes : Type 0
 ComparingSaysYes =
-    (file : LargeFileFlag) (h : PduHeader) (start end room : ℕ) (numbers t : List ℕ) (w : NakWritten) → Lent (offsetWidth file) numbers
+    (file : LargeFileFlag) (h : PduHeader) (start end room : ℕ) (numbers t : List ℕ) (w : PduWritten) → Lent 8 (start ∷ end ∷ []) → Lent (sizeWidth file) numbers
     → writingNak file h start end (length numbers) room ≡ accepted w → comparing file h start end numbers (nakBytes (w .header) start end numbers ++ t) ≡ accepted true
 
 -- and yes means equal numbers: those of the header handed back, the scope, the pairs, and nothing behind them
@@ -124,7 +123,7 @@ pub record Equals (file : LargeFileFlag) (h : PduHeader) (start end : ℕ) (numb
   pub first : nak .start ≡ start
   pub last : nak .end ≡ end
   pub pairs : pairsOf file (areaOf nak s) ≡ byTurns numbers
-  pub whole : length (areaOf nak s) ≡ offsetWidth file * length numbers
+  pub whole : length (areaOf nak s) ≡ sizeWidth file * length numbers
 
 abbrev pub YesMeansEqual : Type 0
 YesMeansEqual = (file : LargeFileFlag) (h : PduHeader) (start end : ℕ) (numbers s : List ℕ) → comparing file h start end numbers s ≡ accepted true → Equals file h start end numbers s
@@ -132,9 +131,6 @@ YesMeansEqual = (file : LargeFileFlag) (h : PduHeader) (start end : ℕ) (number
 -- each promise leaves one answer
 abbrev pub OneNakResult : Type 0
 OneNakResult = (a b : NakResult) → nakAnswer a ≡ nakAnswer b → a ≡ b
-
-abbrev pub OneWriteResult : Type 0
-OneWriteResult = (a b : WriteResult) → writeAnswer a ≡ writeAnswer b → a ≡ b
 
 abbrev pub OneReserveResult : Type 0
 OneReserveResult = (a b : ReserveResult) → reserveAnswer a ≡ reserveAnswer b → a ≡ b
@@ -155,12 +151,6 @@ NakDemand3 = Demand3 (run readingNak) 4
 abbrev pub FourAreHeard : Type 0
 FourAreHeard = heard (run readingNak) (λ i. getD (0x28 ∷ 0x00 ∷ 0x01 ∷ []) i 0) 9 0 ≡ 4
 
--- the first three of its parts of the code's own answers: r to the bytes s, q to the same bytes and t behind them
-pub record Readings (s t : List ℕ) (r q : NakResult) : Type 0 where
-  pub first : nakAnswer r ≡ run readingNak s
-  pub longer : nakAnswer q ≡ run readingNak (s ++ t)
-
-pub record CodeDemand3 : Type 0 where
-  pub final : (s t : List ℕ) (r q : NakResult) → Readings s t r q → Final (nakAnswer r) → q ≡ r
-  pub waits : (s t : List ℕ) (r q : NakResult) (l n : ℕ) → Readings s t r q → r ≡ Refused (FromSliceTooSmall l n) → length (s ++ t) < n → q ≡ Refused (FromSliceTooSmall (length (s ++ t)) n)
-  pub enough : (s t : List ℕ) (r q : NakResult) (l m n : ℕ) → Readings s t r q → r ≡ Refused (FromSliceTooSmall l n) → length (s ++ t) ≡ n → q ≡ Refused (FromSliceTooSmall m n) → ⊥
+-- the first three of its parts of the code's own answers
+abbrev pub NakCodeDemand3 : Type 0
+NakCodeDemand3 = CodeDemand3 (run readingNak) nakAnswer Refused

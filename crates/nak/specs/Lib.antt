@@ -1,5 +1,4 @@
 -- The definitions that the promises cite, from section 5.2 of the standard and document 01; read them in this order.
-pub mod Directive
 pub mod Nak
 pub mod Reading
 pub mod Requests

@@ -4,30 +4,32 @@ use mathlib.Core.List.{List}
 use Rattle.fields.specs.BigEndian.{numberAt}
 use Rattle.header.specs.declared.PduHeader.{PduHeader}
 use Rattle.header.specs.declared.flags.LargeFileFlag.{LargeFileFlag}
-use Rattle.header.specs.declared.flags.LargeFileFlag.the-variants.{Normal, Large}
 use Rattle.header.specs.Header.{headerLength, dataEnd}
+use Rattle.header.specs.Size.{sizeWidth}
 use Rattle.nak.specs.declared.Nak.{Nak}
 
--- the bytes of one number
-abbrev pub offsetWidth : LargeFileFlag → ℕ
-offsetWidth Normal = 4
-offsetWidth Large = 8
+abbrev pub nakCode : ℕ
+nakCode = 8
 
 -- F: 'the size of the scope and of one pair', 8 or 16
 abbrev pub pairSize : LargeFileFlag → ℕ
-pairSize file = 2 * offsetWidth file
+pairSize file = 2 * sizeWidth file
+
+-- where the scope stands in the data: behind the code
+abbrev pub scopeAt : ℕ
+scopeAt = 1
 
 -- h + 1 + F: where the request area starts
 unfoldable pub areaStart : PduHeader → ℕ
-areaStart h = headerLength h + 1 + pairSize (h .file)
+areaStart h = headerLength h + scopeAt + pairSize (h .file)
 
--- the NAK with that header in the bytes of the PDU p: its scope; 'bytes h + 1 + F up to E as the request area'; '(E - h - 1 - F) / F whole pairs, rounded down'
+-- the NAK with that header and those data: its scope; 'bytes h + 1 + F up to E as the request area'; '(E - h - 1 - F) / F whole pairs, rounded down'
 unfoldable pub nakIn : PduHeader → List ℕ → Nak
-nakIn h p =
+nakIn h content =
     record {
       header = h;
-      start = numberAt p (headerLength h + 1) (offsetWidth (h .file));
-      end = numberAt p (headerLength h + 1 + offsetWidth (h .file)) (offsetWidth (h .file));
+      start = numberAt content scopeAt (sizeWidth (h .file));
+      end = numberAt content (scopeAt + sizeWidth (h .file)) (sizeWidth (h .file));
       area = areaStart h;
       stop = dataEnd h;
       count = (dataEnd h - areaStart h) / pairSize (h .file);

@@ -13,7 +13,8 @@ use Rattle.nak.specs.declared.requests.NextRequest.{NextRequest}
 use Rattle.nak.specs.declared.requests.NextRequest.the-variants.{Pair, End}
 use Rattle.nak.specs.declared.requests.RequestsStart.{RequestsStart}
 use Rattle.nak.specs.declared.requests.RequestsStart.the-variants.{From, Nothing}
-use Rattle.nak.specs.Nak.{offsetWidth, pairSize}
+use Rattle.header.specs.Size.{sizeWidth}
+use Rattle.nak.specs.Nak.{pairSize}
 
 -- the bytes from `area` up to `stop`; an area that does not lie in the bytes is empty
 unfoldable pub areaOf : Nak → List ℕ → List ℕ
@@ -26,13 +27,13 @@ pairsFrom w area at (suc n) = (numberAt area at w, numberAt area (at + w) w) ∷
 
 -- the whole pairs of an area: 'a part of a pair at its end is never shown as a pair'
 unfoldable pub pairsOf : LargeFileFlag → List ℕ → List (ℕ × ℕ)
-pairsOf file area = pairsFrom (offsetWidth file) area 0 (length area / pairSize file)
+pairsOf file area = pairsFrom (sizeWidth file) area 0 (length area / pairSize file)
 
 -- at a position: a whole pair and the position behind it; 'a position with no whole pair left gives the end'
 unfoldable pub nextRequest : List ℕ → LargeFileFlag → ℕ → NextRequest
 nextRequest area file at =
     if leb (at + pairSize file) (length area)
-    then Pair (numberAt area at (offsetWidth file)) (numberAt area (at + offsetWidth file) (offsetWidth file)) (record { at = at + pairSize file })
+    then Pair (numberAt area at (sizeWidth file)) (numberAt area (at + sizeWidth file) (sizeWidth file)) (record { at = at + pairSize file })
     else End
 
 -- 'An empty area has no iterator'

@@ -1,19 +1,18 @@
 -- What private functions promise each other, by the definitions of the other files. No public promise cites this file.
 use Prim.Native.Nat.{ℕ}
 use mathlib.Core.Bool.{Bool, _&&_}
-use mathlib.Core.List.{List, [], _∷_, _++_}
-use Rattle.fields.specs.Answer.{Answer, accepted, andThen, Test, firstOf}
+use Rattle.fields.specs.Answer.{Answer, accepted, andThen}
 use Rattle.header.specs.declared.PduHeader.{PduHeader}
 use Rattle.header.specs.declared.flags.LargeFileFlag.{LargeFileFlag}
-use Rattle.header.specs.Header.{pduLength}
-use Rattle.header.specs.Directive.{noRoom}
+use Rattle.header.specs.declared.flags.Direction.the-variants.{TowardsSender}
+use Rattle.header.specs.Header.{withDirection, withFileFlag}
 use Rattle.nak.specs.declared.Nak.{Nak}
 use Rattle.nak.specs.Writing.{judgingNak}
 use Rattle.nak.specs.Comparing.{sameNak}
 
--- those tests, then 11, as in `intoRoom`; of what is accepted only the written length
-unfoldable pub lengthInto : List Test → PduHeader → ℕ → Answer ℕ
-lengthInto ts h room = firstOf (ts ++ (noRoom room h ∷ [])) (pduLength h)
+-- the header that a NAK is begun with: direction 1, the file flag of the list
+abbrev pub towardsSender : LargeFileFlag → PduHeader → PduHeader
+towardsSender file h = withFileFlag file (withDirection TowardsSender h)
 
 -- comparing, of a NAK that was read; `held` is whether its area is exactly the numbers
 unfoldable pub comparingRead : LargeFileFlag → PduHeader → ℕ → ℕ → ℕ → Nak → Bool → Answer Bool

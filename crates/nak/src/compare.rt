@@ -10,9 +10,10 @@ use crate::NakResult;
 use crate::write;
 use fields::Refusal;
 use fields::be;
+use header::Judged;
 use header::LargeFileFlag;
-use header::LengthResult;
 use header::PduHeader;
+use header::pdu::DataLength;
 
 // Whether the buffer holds that NAK, or why that cannot be told.
 pub enum CompareResult {
@@ -90,11 +91,17 @@ fn compare_read(
 ) -> CompareResult
     ensures { λ r. ⌜ compareAnswer r ≡ comparingRead file header start end count nak held ⌝ }
 {
-    let judged = write::judge_nak(header, file, start, end, count);
-    match judged {
-        LengthResult::Refused(refusal) => CompareResult::Refused(refusal),
-        LengthResult::Length(_) => {
-            if !same_nak(nak, write::fill(header, file, count / 2), start, end) {
+    let judged = header.judged_directive();
+    if let Judged::Refused(refusal) = judged {
+        return CompareResult::Refused(refusal);
+    }
+    let crc = header.crc;
+    let own = write::data_length(file, crc, start, end, count);
+    match own {
+        DataLength::Refused(refusal) => CompareResult::Refused(refusal),
+        DataLength::Length(d) => {
+            let handed = write::towards_sender(header, file).with_datafield_len(d);
+            if !same_nak(nak, handed, start, end) {
                 return CompareResult::Different;
             }
             verdict(held)

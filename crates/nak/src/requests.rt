@@ -2,9 +2,9 @@
 ghost use mathlib.Core.Path.{_≡_};
 ghost use Rattle.nak.specs.Requests.{areaOf, nextRequest, requestsOf};
 use crate::Nak;
-use crate::offset_at;
-use crate::offset_width;
 use header::LargeFileFlag;
+use header::size::read_size;
+use header::size::size_width;
 
 // A position in a request area.
 pub struct RequestCursor {
@@ -58,7 +58,7 @@ impl RequestCursor {
         ensures { λ r. ⌜ r ≡ nextRequest (now (area .entry)) file (self .at) ⌝ }
     {
         let at = self.at;
-        let width = offset_width(file);
+        let width = size_width(file);
         if area.len() < at {
             return NextRequest::End;
         }
@@ -66,8 +66,8 @@ impl RequestCursor {
             return NextRequest::End;
         }
         NextRequest::Pair {
-            start: offset_at(area, at, file),
-            end: offset_at(area, at + width, file),
+            start: read_size(area, at, file),
+            end: read_size(area, at + width, file),
             next: RequestCursor { at: at + 2 * width },
         }
     }

@@ -1,22 +1,20 @@
 // Reserving room for requests that the caller fills in, and finishing the NAK around them (the Rust's `NakPduCreatorWithReservedSeqReqsBuf`).
 ghost use mathlib.Core.Path.{_≡_};
-ghost use Prim.Native.Nat.{_≤_};
+ghost use mathlib.Core.List.{[], _∷_};
 ghost use lib.ListN.{length};
 ghost use Rattle.fields.specs.Answer.{firstOf};
-ghost use Rattle.header.specs.Answers.{lengthAnswer};
-ghost use Rattle.header.specs.Header.{headerLength};
-ghost use Rattle.nak.specs.Writing.{writeAnswer, mostPairs};
-ghost use Rattle.nak.specs.Reserving.{reserveAnswer, pairTests, keeping, placed, reserving, ownFinish, finishing, finishedMemory};
-ghost use Rattle.nak.specs.Within.{lengthInto};
+ghost use Rattle.header.specs.Pdu.{dataAnswer, writeAnswer};
+ghost use Rattle.nak.specs.Writing.{dataLength, tooMany};
+ghost use Rattle.nak.specs.Reserving.{reserveAnswer, placed, reserving, finishTests, finishing, finishedMemory};
 use crate::area_start;
 use crate::write;
-use crate::write::NakWritten;
-use crate::write::WriteResult;
 use fields::Refusal;
+use header::CrcFlag;
+use header::Judged;
 use header::LargeFileFlag;
-use header::LengthResult;
 use header::PduHeader;
-use header::verify;
+use header::pdu::DataLength;
+use header::pdu::WriteResult;
 
 // The header that was reserved for, the pairs, and where their bytes start and stop in the buffer.
 pub struct ReservedNak {
@@ -32,36 +30,6 @@ pub enum ReserveResult {
     Refused(Refusal),
 }
 
-// The judgement but for scope and room: h.
-fn judge_pairs(header: PduHeader, count: usize) -> LengthResult
-    ensures { λ r. ⌜ lengthAnswer r ≡ firstOf (pairTests header count) (headerLength header) ⌝ }
-{
-    let judged = header.judged_directive();
-    match judged {
-        LengthResult::Refused(refusal) => LengthResult::Refused(refusal),
-        LengthResult::Length(h) => {
-            let file = header.file;
-            let most = write::most_pairs(file);
-            if most < count {
-                return LengthResult::Refused(Refusal::TooManySegmentRequests {
-                    found: count,
-                    most,
-                });
-            }
-            LengthResult::Length(h)
-        }
-    }
-}
-
-// Direction and length are filled in, the file flag is kept.
-fn keep(header: PduHeader, count: usize) -> PduHeader
-    requires { ⌜ count ≤ mostPairs (header .file) ⌝ }
-    ensures { λ r. ⌜ r ≡ keeping header count ⌝ }
-{
-    let file = header.file;
-    write::fill(header, file, count)
-}
-
 // Behind the scope lies room for the requests, up to the end of the data.
 fn place(header: PduHeader, count: usize) -> ReservedNak
     ensures { λ r. ⌜ r ≡ placed header count ⌝ }
@@ -70,32 +38,42 @@ fn place(header: PduHeader, count: usize) -> ReservedNak
         header,
         count,
         area: area_start(header),
-        stop: write::data_end(header),
+        stop: header.data_end(),
     }
 }
 
-fn reservable(header: PduHeader, count: usize, room: usize) -> LengthResult
-    ensures { λ r. ⌜ lengthAnswer r ≡ lengthInto (pairTests header count) (keeping header count) room ⌝ }
+// Reserving's own test, 10: the length of the data field.
+fn pairs_length(file: LargeFileFlag, crc: CrcFlag, pairs: usize) -> DataLength
+    ensures { λ r. ⌜ dataAnswer r ≡ firstOf (tooMany file pairs ∷ []) (dataLength file crc pairs) ⌝ }
 {
-    let judged = judge_pairs(header, count);
-    match judged {
-        LengthResult::Refused(refusal) => LengthResult::Refused(refusal),
-        LengthResult::Length(_) => write::with_room(keep(header, count), room),
+    let few = write::judge_pairs(file, pairs);
+    match few {
+        Judged::Refused(refusal) => DataLength::Refused(refusal),
+        Judged::Passed => DataLength::Length(write::length_of(file, crc, pairs)),
     }
 }
 
-// Finishing's own tests, which stand behind the record's: the pairs.
-fn judge_finish(file: LargeFileFlag, count: usize, start: u64, end: u64) -> LengthResult
-    ensures { λ r. ⌜ lengthAnswer r ≡ firstOf (ownFinish file count start end) count ⌝ }
+// Finishing's own tests, 10 and 9: the length of the data field.
+fn finished_length(
+    file: LargeFileFlag,
+    crc: CrcFlag,
+    pairs: usize,
+    start: u64,
+    end: u64,
+) -> DataLength
+    ensures { λ r. ⌜ dataAnswer r ≡ firstOf (finishTests file pairs start end) (dataLength file crc pairs) ⌝ }
 {
-    let most = write::most_pairs(file);
-    if most < count {
-        return LengthResult::Refused(Refusal::TooManySegmentRequests { found: count, most });
+    let length = pairs_length(file, crc, pairs);
+    match length {
+        DataLength::Refused(refusal) => DataLength::Refused(refusal),
+        DataLength::Length(d) => {
+            let scope = write::judge_scope(file, start, end);
+            match scope {
+                Judged::Refused(refusal) => DataLength::Refused(refusal),
+                Judged::Passed => DataLength::Length(d),
+            }
+        }
     }
-    if !write::scope_fits(file, start, end) {
-        return LengthResult::Refused(Refusal::InvalidStartOrEndOfScope { start, end });
-    }
-    LengthResult::Length(count)
 }
 
 impl ReservedNak {
@@ -103,10 +81,15 @@ impl ReservedNak {
     pub fn new(header: PduHeader, count: usize, buf: &[u8]) -> ReserveResult
         ensures { λ r. ⌜ reserveAnswer r ≡ reserving header count (length (now (buf .entry))) ⌝ }
     {
-        let answer = reservable(header, count, buf.len());
-        match answer {
-            LengthResult::Refused(refusal) => ReserveResult::Refused(refusal),
-            LengthResult::Length(_) => ReserveResult::Reserved(place(keep(header, count), count)),
+        let file = header.file;
+        let crc = header.crc;
+        let own = pairs_length(file, crc, count);
+        let judged = write::towards_sender(header, file).judge_write(own, buf.len());
+        match judged {
+            WriteResult::Refused(refusal) => ReserveResult::Refused(refusal),
+            WriteResult::Written(written) => {
+                ReserveResult::Reserved(place(written.header, count))
+            }
         }
     }
 
@@ -117,21 +100,16 @@ impl ReservedNak {
     {
         let given = self.header;
         let file = given.file;
-        let judged = judge_finish(file, self.count, start, end);
-        match judged {
-            LengthResult::Refused(refusal) => write::behind_record(given, refusal),
-            LengthResult::Length(count) => {
-                let header = keep(given, count);
-                let begun = header.write_directive_header(buf);
-                match begun {
-                    LengthResult::Refused(refusal) => WriteResult::Refused(refusal),
-                    LengthResult::Length(length) => {
-                        let crc = header.crc;
-                        write::put_scope(buf, header, start, end);
-                        verify::add_pdu_crc(buf, write::data_end(header), crc);
-                        WriteResult::Written(NakWritten { header, length })
-                    }
-                }
+        let crc = given.crc;
+        let own = finished_length(file, crc, self.count, start, end);
+        let begun = write::towards_sender(given, file).begin_write(own, buf);
+        match begun {
+            WriteResult::Refused(refusal) => WriteResult::Refused(refusal),
+            WriteResult::Written(written) => {
+                let header = written.header;
+                write::put_scope(buf, header, start, end);
+                header.seal(buf);
+                WriteResult::Written(written)
             }
         }
     }

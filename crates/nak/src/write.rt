@@ -1,175 +1,137 @@
 // Writing a NAK (the Rust's `NakPduCreator`): with no list, a list of 32-bit numbers, or a list of 64-bit numbers, start and end by turns.
 ghost use mathlib.Core.Path.{_≡_};
-ghost use mathlib.Core.Bool.{true};
 ghost use mathlib.Core.List.{[], _∷_};
 ghost use Prim.Native.Nat.{_+_, _*_, _/_, _%_, _^_, _≤_, _<_};
 ghost use lib.ListN.{length, getD};
 ghost use lib.Seq.{sets};
-ghost use Rattle.fields.specs.Answer.{told, andThen, firstOf};
-ghost use Rattle.fields.specs.Refusal.{paper};
-ghost use Rattle.header.specs.Answers.{lengthAnswer};
-ghost use Rattle.header.specs.Header.{headerLength, pduLength, dataEnd};
-ghost use Rattle.header.specs.Directive.{judgingDirective, noRoom};
+ghost use Rattle.fields.specs.Answer.{firstOf, allOf};
+ghost use Rattle.fields.proofs.Judging.{Passed};
+ghost use Rattle.header.specs.Answers.{judgedAnswer};
+ghost use Rattle.header.specs.Header.{headerLength};
+ghost use Rattle.header.specs.Pdu.{dataAnswer, writeAnswer};
 ghost use Rattle.nak.specs.Nak.{areaStart};
-ghost use Rattle.nak.specs.Writing.{writeAnswer, numbersBytes, scopeBytes, dataLength, mostPairs, filled, scopeFits, ownTests, nakTests, writingNak, nakMemory};
+ghost use Rattle.nak.specs.Writing.{numbersBytes, scopeBytes, dataLength, mostPairs, scopeFits, scopeTooLarge, tooMany, ownTests, writingNak, nakMemory};
+ghost use Rattle.nak.specs.Within.{towardsSender};
+use crate::NAK_CODE;
+use crate::SCOPE_AT;
 use crate::area_start;
-use crate::offset_width;
 use fields::Refusal;
 use fields::be;
+use header::CRC_LEN;
 use header::CrcFlag;
 use header::Direction;
+use header::Judged;
 use header::LargeFileFlag;
-use header::LengthResult;
 use header::PduHeader;
-use header::verify;
-
-// The code of a NAK.
-const NAK_CODE: u64 = 8;
-
-// The header as it was written, its length filled in, and how many bytes were written.
-pub struct NakWritten {
-    pub header: PduHeader,
-    pub length: usize,
-}
-
-// A NAK that was written, or why it was not.
-pub enum WriteResult {
-    Written(NakWritten),
-    Refused(Refusal),
-}
+use header::pdu::DataLength;
+use header::pdu::WriteResult;
+use header::size;
 
 // The pairs that fit a data field of 65,535 bytes, with or without CRC.
+const MAX_NORMAL_PAIRS: usize = 8190;
+
+const MAX_LARGE_PAIRS: usize = 4094;
+
 pub(crate) fn most_pairs(file: LargeFileFlag) -> usize
     ensures { λ r. ⌜ r ≡ mostPairs file ⌝ }
 {
     match file {
-        LargeFileFlag::Normal => 8190,
-        LargeFileFlag::Large => 4094,
+        LargeFileFlag::Normal => MAX_NORMAL_PAIRS,
+        LargeFileFlag::Large => MAX_LARGE_PAIRS,
     }
 }
 
-pub(crate) fn scope_fits(file: LargeFileFlag, start: u64, end: u64) -> bool
+fn scope_fits(file: LargeFileFlag, start: u64, end: u64) -> bool
     ensures { λ r. ⌜ r ≡ scopeFits file start end ⌝ }
 {
-    let width = offset_width(file);
-    if !be::fits(start, width) {
+    if !size::fits_size(file, start) {
         return false;
     }
-    be::fits(end, width)
+    size::fits_size(file, end)
+}
+
+// 9: in a large NAK every scope fits.
+pub(crate) fn judge_scope(file: LargeFileFlag, start: u64, end: u64) -> Judged
+    ensures { λ r. ⌜ judgedAnswer r ≡ allOf (scopeTooLarge file start end ∷ []) ⌝ }
+{
+    if let LargeFileFlag::Large = file {
+        return Judged::Passed;
+    }
+    if !scope_fits(file, start, end) {
+        return Judged::Refused(Refusal::InvalidStartOrEndOfScope { start, end });
+    }
+    Judged::Passed
+}
+
+// 10
+pub(crate) fn judge_pairs(file: LargeFileFlag, pairs: usize) -> Judged
+    ensures { λ r. ⌜ judgedAnswer r ≡ allOf (tooMany file pairs ∷ []) ⌝ }
+{
+    let most = most_pairs(file);
+    if most < pairs {
+        return Judged::Refused(Refusal::TooManySegmentRequests { found: pairs, most });
+    }
+    Judged::Passed
 }
 
 // The data field's length is computed wide; so many pairs fit, and so it fits 16 bits.
-fn data_length(file: LargeFileFlag, crc: CrcFlag, pairs: usize) -> u16
+pub(crate) fn length_of(file: LargeFileFlag, crc: CrcFlag, pairs: usize) -> u16
     requires { ⌜ pairs ≤ mostPairs file ⌝ }
     ensures { λ r. ⌜ r ≡ dataLength file crc pairs ⌝ }
 {
-    let pair = 2 * offset_width(file);
-    let sum = 2 * (crc.bit() as usize);
-    let wide = 1 + pair + pairs * pair + sum;
+    let pair = 2 * size::size_width(file);
+    let sum = CRC_LEN * (crc.bit() as usize);
+    let wide = SCOPE_AT + pair + pairs * pair + sum;
     wide as u16
 }
 
-// The header that is handed back: direction towards the sender, the file flag of the list, the length of so many pairs.
-pub(crate) fn fill(header: PduHeader, file: LargeFileFlag, pairs: usize) -> PduHeader
-    requires { ⌜ pairs ≤ mostPairs file ⌝ }
-    ensures { λ r. ⌜ r ≡ filled file pairs header ⌝ }
-{
-    let crc = header.crc;
-    let length = data_length(file, crc, pairs);
-    header
-        .with_direction(Direction::TowardsSender)
-        .with_file_flag(file)
-        .with_datafield_len(length)
-}
-
-// The NAK's own tests, which stand behind the record's: the pairs.
-fn judge_own(file: LargeFileFlag, start: u64, end: u64, count: usize) -> LengthResult
-    ensures { λ r. ⌜ lengthAnswer r ≡ firstOf (ownTests file start end count) (count / 2) ⌝ }
-{
-    if count % 2 != 0 {
-        return LengthResult::Refused(Refusal::OddCount(count));
-    }
-    if !scope_fits(file, start, end) {
-        return LengthResult::Refused(Refusal::InvalidStartOrEndOfScope { start, end });
-    }
-    let pairs = count / 2;
-    let most = most_pairs(file);
-    if most < pairs {
-        return LengthResult::Refused(Refusal::TooManySegmentRequests { found: pairs, most });
-    }
-    LengthResult::Length(pairs)
-}
-
-// What the NAK's own tests refuse, unless the record is refused, whose tests come first.
-pub(crate) fn behind_record(header: PduHeader, refusal: Refusal) -> WriteResult
-    ensures { λ r. ⌜ writeAnswer r ≡ andThen (judgingDirective header) (λ _. told (paper refusal)) ⌝ }
-{
-    let judged = header.judged_directive();
-    match judged {
-        LengthResult::Refused(first) => WriteResult::Refused(first),
-        LengthResult::Length(_) => WriteResult::Refused(refusal),
-    }
-}
-
-// The writer's judgement but for the room: h. As with `judged_directive`, a record would be longer to hand back.
-pub(crate) fn judge_nak(
-    header: PduHeader,
+// The NAK's own tests, 12, 9 and 10: the length of its data field.
+pub(crate) fn data_length(
     file: LargeFileFlag,
+    crc: CrcFlag,
     start: u64,
     end: u64,
     count: usize,
-) -> LengthResult
-    ensures { λ r. ⌜ lengthAnswer r ≡ firstOf (nakTests file header start end count) (headerLength header) ⌝ }
+) -> DataLength
+    ensures { λ r. ⌜ dataAnswer r ≡ firstOf (ownTests file start end count) (dataLength file crc (count / 2)) ⌝ }
 {
-    let judged = header.judged_directive();
-    match judged {
-        LengthResult::Refused(refusal) => LengthResult::Refused(refusal),
-        LengthResult::Length(h) => {
-            let own = judge_own(file, start, end, count);
-            match own {
-                LengthResult::Refused(refusal) => LengthResult::Refused(refusal),
-                LengthResult::Length(_) => LengthResult::Length(h),
-            }
-        }
+    if count % 2 != 0 {
+        return DataLength::Refused(Refusal::OddCount(count));
     }
+    let scope = judge_scope(file, start, end);
+    if let Judged::Refused(refusal) = scope {
+        return DataLength::Refused(refusal);
+    }
+    let pairs = count / 2;
+    let few = judge_pairs(file, pairs);
+    if let Judged::Refused(refusal) = few {
+        return DataLength::Refused(refusal);
+    }
+    DataLength::Length(length_of(file, crc, pairs))
 }
 
-// Room for the whole PDU of a judged header: its length.
-pub(crate) fn with_room(header: PduHeader, room: usize) -> LengthResult
-    ensures { λ r. ⌜ lengthAnswer r ≡ firstOf (noRoom room header ∷ []) (pduLength header) ⌝ }
+// The header that a NAK is begun with: direction towards the sender, the file flag of the list.
+pub(crate) fn towards_sender(header: PduHeader, file: LargeFileFlag) -> PduHeader
+    ensures { λ r. ⌜ r ≡ towardsSender file header ⌝ }
 {
-    let length = header.pdu_len();
-    if room < length {
-        return LengthResult::Refused(Refusal::ToSliceTooSmall {
-            found: room,
-            expected: length,
-        });
-    }
-    LengthResult::Length(length)
+    header
+        .with_direction(Direction::TowardsSender)
+        .with_file_flag(file)
 }
 
 // Directive and scope, behind the header.
 pub(crate) fn put_scope(buf: &mut [u8], header: PduHeader, start: u64, end: u64)
-    requires { ⌜ (areaStart header ≤ length (now buf)) × (scopeFits (header .file) start end ≡ true) ⌝ }
-    ensures { λ _. ⌜ now (buf .exit) ≡ sets (now (buf .entry)) (headerLength header) (scopeBytes header start end) ⌝ }
+    requires { ⌜ (areaStart header ≤ length (now buf)) × Passed (scopeTooLarge (header .file) start end ∷ []) ⌝ }
+    ensures { λ _. ⌜ now (buf .exit) ≡ sets (now (buf .entry)) (headerLength header) (scopeBytes (header .file) start end) ⌝ }
 {
     let at = header.header_len();
     let file = header.file;
-    let width = offset_width(file);
-    let first = at + 1;
+    let width = size::size_width(file);
+    let first = at + SCOPE_AT;
     let second = first + width;
-    be::write_be(buf, at, 1, NAK_CODE);
+    be::write_be(buf, at, 1, NAK_CODE as u64);
     be::write_be(buf, first, width, start);
     be::write_be(buf, second, width, end);
-}
-
-// Where the data of a PDU ends: a checksum is no data.
-pub(crate) fn data_end(header: PduHeader) -> usize
-    ensures { λ r. ⌜ r ≡ dataEnd header ⌝ }
-{
-    let crc = header.crc;
-    let sum = 2 * (crc.bit() as usize);
-    header.pdu_len() - sum
 }
 
 // The number at i, and above it the next: so they stand in the memory of a little-endian machine.
@@ -231,21 +193,16 @@ pub fn write_no_segment_requests(
     ensures stored { λ _. ⌜ now (buf .exit) ≡ nakMemory (header .file) header start end [] (now (buf .entry)) ⌝ }
 {
     let file = header.file;
-    let judged = judge_own(file, start, end, 0);
-    match judged {
-        LengthResult::Refused(refusal) => behind_record(header, refusal),
-        LengthResult::Length(pairs) => {
-            let header = fill(header, file, pairs);
-            let begun = header.write_directive_header(buf);
-            match begun {
-                LengthResult::Refused(refusal) => WriteResult::Refused(refusal),
-                LengthResult::Length(length) => {
-                    let crc = header.crc;
-                    put_scope(buf, header, start, end);
-                    verify::add_pdu_crc(buf, data_end(header), crc);
-                    WriteResult::Written(NakWritten { header, length })
-                }
-            }
+    let crc = header.crc;
+    let own = data_length(file, crc, start, end, 0);
+    let begun = towards_sender(header, file).begin_write(own, buf);
+    match begun {
+        WriteResult::Refused(refusal) => WriteResult::Refused(refusal),
+        WriteResult::Written(written) => {
+            let header = written.header;
+            put_scope(buf, header, start, end);
+            header.seal(buf);
+            WriteResult::Written(written)
         }
     }
 }
@@ -261,22 +218,17 @@ pub fn write_normal_file_size(
     ensures answered { λ r. ⌜ writeAnswer r ≡ writingNak LargeFileFlag.Normal header start end (length (now (numbers .entry))) (length (now (buf .entry))) ⌝ }
     ensures stored { λ _. ⌜ now (buf .exit) ≡ nakMemory LargeFileFlag.Normal header start end (now (numbers .entry)) (now (buf .entry)) ⌝ }
 {
-    let judged = judge_own(LargeFileFlag::Normal, start, end, numbers.len());
-    match judged {
-        LengthResult::Refused(refusal) => behind_record(header, refusal),
-        LengthResult::Length(pairs) => {
-            let header = fill(header, LargeFileFlag::Normal, pairs);
-            let begun = header.write_directive_header(buf);
-            match begun {
-                LengthResult::Refused(refusal) => WriteResult::Refused(refusal),
-                LengthResult::Length(length) => {
-                    let crc = header.crc;
-                    put_scope(buf, header, start, end);
-                    put_normal(buf, area_start(header), numbers);
-                    verify::add_pdu_crc(buf, data_end(header), crc);
-                    WriteResult::Written(NakWritten { header, length })
-                }
-            }
+    let crc = header.crc;
+    let own = data_length(LargeFileFlag::Normal, crc, start, end, numbers.len());
+    let begun = towards_sender(header, LargeFileFlag::Normal).begin_write(own, buf);
+    match begun {
+        WriteResult::Refused(refusal) => WriteResult::Refused(refusal),
+        WriteResult::Written(written) => {
+            let header = written.header;
+            put_scope(buf, header, start, end);
+            put_normal(buf, area_start(header), numbers);
+            header.seal(buf);
+            WriteResult::Written(written)
         }
     }
 }
@@ -292,22 +244,17 @@ pub fn write_large_file_size(
     ensures answered { λ r. ⌜ writeAnswer r ≡ writingNak LargeFileFlag.Large header start end (length (now (numbers .entry))) (length (now (buf .entry))) ⌝ }
     ensures stored { λ _. ⌜ now (buf .exit) ≡ nakMemory LargeFileFlag.Large header start end (now (numbers .entry)) (now (buf .entry)) ⌝ }
 {
-    let judged = judge_own(LargeFileFlag::Large, start, end, numbers.len());
-    match judged {
-        LengthResult::Refused(refusal) => behind_record(header, refusal),
-        LengthResult::Length(pairs) => {
-            let header = fill(header, LargeFileFlag::Large, pairs);
-            let begun = header.write_directive_header(buf);
-            match begun {
-                LengthResult::Refused(refusal) => WriteResult::Refused(refusal),
-                LengthResult::Length(length) => {
-                    let crc = header.crc;
-                    put_scope(buf, header, start, end);
-                    put_large(buf, area_start(header), numbers);
-                    verify::add_pdu_crc(buf, data_end(header), crc);
-                    WriteResult::Written(NakWritten { header, length })
-                }
-            }
+    let crc = header.crc;
+    let own = data_length(LargeFileFlag::Large, crc, start, end, numbers.len());
+    let begun = towards_sender(header, LargeFileFlag::Large).begin_write(own, buf);
+    match begun {
+        WriteResult::Refused(refusal) => WriteResult::Refused(refusal),
+        WriteResult::Written(written) => {
+            let header = written.header;
+            put_scope(buf, header, start, end);
+            put_large(buf, area_start(header), numbers);
+            header.seal(buf);
+            WriteResult::Written(written)
         }
     }
 }

@@ -1,7 +1,7 @@
 -- `cfdp::show_written` meets its contract in both cases.
 -- Assumes nothing.
 use mathlib.Core.Path.{sym, ap}
-use Rattle.nak.specs.Writing.{writeAnswer}
+use Rattle.header.specs.Pdu.{writeAnswer}
 use Rattle.cfdp.specs.Shown.{writtenNumbers}
 use Rattle.cfdp.proofs.Shown.{refused-shown, accepted-shown}
 use borrow.Author.Needs.{needs}

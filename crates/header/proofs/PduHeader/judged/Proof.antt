@@ -6,9 +6,11 @@ use borrow.Author.Tests.{not-true, not-false}
 use Rattle.fields.specs.declared.field.UnsignedByteField.{UnsignedByteField}
 use Rattle.fields.specs.Width.{fitsField}
 use Rattle.fields.specs.Answer.{told}
-use Rattle.header.specs.Answers.{headerAnswer}
+use Rattle.fields.proofs.Judging.{passed}
 use Rattle.header.specs.declared.HeaderResult.the-variants.{Refused}
-use Rattle.header.proofs.Judging.{bad-entity, bad-sequence, large-source, large-sequence, large-destination, all-right}
+use Rattle.header.specs.Answers.{headerAnswer, judgedAnswer}
+use Rattle.header.specs.Judging.{widthTests}
+use Rattle.header.proofs.Judging.{bad-widths, large-source, large-sequence, large-destination, all-right}
 use borrow.Author.Needs.{needs}
 use Rattle.header.proofs.PduHeader.judged.Statement.{statement}
 use Rattle.header.proofs.PduHeader.judged.Tie as tie
@@ -19,17 +21,17 @@ source-id-requires c κs = search needs
 dest-id-requires : tie.Need-dest-id-requires
 dest-id-requires c κs = search needs
 
-is-width-requires : tie.Need-is-width-requires
-is-width-requires c κs = search needs
+judge-widths-requires : tie.Need-judge-widths-requires
+judge-widths-requires c κs = search needs
+
+enum-known-judged : tie.Need-enum-known-judged
+enum-known-judged c = search needs
 
 returns : tie.Need-returns
-returns c = bad-entity _ (sym (c .before .is-width .ensures) ∙ not-true _ (c .if1 .taken))
+returns c = bad-widths _ _ (ap judgedAnswer (sym (c .before .judged .given .1)) ∙ c .before .before .before .judge-widths .ensures)
 
-is-width-requires-2 : tie.Need-is-width-requires-2
-is-width-requires-2 c κs = search needs
-
-returns-2 : tie.Need-returns-2
-returns-2 c = bad-sequence _ (sym (c .before .before .before .is-width .ensures) ∙ not-false _ (c .before .before .if1 .left)) (sym (c .before .is-width2 .ensures) ∙ not-true _ (c .if2 .taken))
+enum-told : tie.Need-enum-told
+enum-told c = search needs
 
 fits-requires : tie.Need-fits-requires
 fits-requires c κs = search needs
@@ -37,9 +39,8 @@ fits-requires c κs = search needs
 too-large-requires : tie.Need-too-large-requires
 too-large-requires c κs = search needs
 
-returns-3 : tie.Need-returns-3
-returns-3 c = ap (λ r. headerAnswer (Refused r)) (c .too-large .ensures) ∙ ap (λ (f : UnsignedByteField). told (14 ∷ f .value ∷ f .width ∷ [])) (c .before .before .before .before .before .before .before .before .before .source-id .ensures)
-    ∙ large-source _ (sym (c .before .before .before .before .before .before .is-width .ensures) ∙ not-false _ (c .before .before .before .before .before .if1 .left)) (sym (c .before .before .before .before .is-width2 .ensures) ∙ not-false _ (c .before .before .before .if2 .left)) (ap fitsField (sym (c .before .before .before .before .before .before .before .before .before .source-id .ensures)) ∙ sym (c .before .before .fits2 .ensures) ∙ not-true _ (c .before .if3 .taken))
+returns-2 : tie.Need-returns-2
+returns-2 c = let w = passed (widthTests (c .before .before .before .before .before .before .before .before .before .args .self .width) (c .before .before .before .before .before .before .before .before .before .args .self .sequence .0 .width)) tt tt (ap judgedAnswer (sym (c .before .before .before .enum-told .given .1)) ∙ c .before .before .before .before .before .judge-widths .ensures) .0 in ap (λ r. headerAnswer (Refused r)) (c .too-large .ensures) ∙ ap (λ (f : UnsignedByteField). told (14 ∷ f .value ∷ f .width ∷ [])) (c .before .before .before .before .before .before .before .before .source-id .ensures) ∙ large-source _ w (ap fitsField (sym (c .before .before .before .before .before .before .before .before .source-id .ensures)) ∙ sym (c .before .before .fits2 .ensures) ∙ not-true _ (c .before .if1 .taken))
 
 fits-requires-2 : tie.Need-fits-requires-2
 fits-requires-2 c κs = search needs
@@ -47,9 +48,8 @@ fits-requires-2 c κs = search needs
 too-large-requires-2 : tie.Need-too-large-requires-2
 too-large-requires-2 c κs = search needs
 
-returns-4 : tie.Need-returns-4
-returns-4 c = ap (λ r. headerAnswer (Refused r)) (c .too-large2 .ensures)
-    ∙ large-sequence _ (sym (c .before .before .before .before .before .before .before .before .is-width .ensures) ∙ not-false _ (c .before .before .before .before .before .before .before .if1 .left)) (sym (c .before .before .before .before .before .before .is-width2 .ensures) ∙ not-false _ (c .before .before .before .before .before .if2 .left)) (ap fitsField (sym (c .before .before .before .before .before .before .before .before .before .before .before .source-id .ensures)) ∙ sym (c .before .before .before .before .fits2 .ensures) ∙ not-false _ (c .before .before .before .if3 .left)) (sym (c .before .before .fits3 .ensures) ∙ not-true _ (c .before .if4 .taken))
+returns-3 : tie.Need-returns-3
+returns-3 c = let w = passed (widthTests (c .before .before .before .before .before .before .before .before .before .before .before .args .self .width) (c .before .before .before .before .before .before .before .before .before .before .before .args .self .sequence .0 .width)) tt tt (ap judgedAnswer (sym (c .before .before .before .before .before .enum-told .given .1)) ∙ c .before .before .before .before .before .before .before .judge-widths .ensures) .0 in ap (λ r. headerAnswer (Refused r)) (c .too-large2 .ensures) ∙ large-sequence _ w (ap fitsField (sym (c .before .before .before .before .before .before .before .before .before .before .source-id .ensures)) ∙ sym (c .before .before .before .before .fits2 .ensures) ∙ not-false _ (c .before .before .before .if1 .left)) (sym (c .before .before .fits3 .ensures) ∙ not-true _ (c .before .if2 .taken))
 
 fits-requires-3 : tie.Need-fits-requires-3
 fits-requires-3 c κs = search needs
@@ -57,12 +57,11 @@ fits-requires-3 c κs = search needs
 too-large-requires-3 : tie.Need-too-large-requires-3
 too-large-requires-3 c κs = search needs
 
-returns-5 : tie.Need-returns-5
-returns-5 c = ap (λ r. headerAnswer (Refused r)) (c .too-large3 .ensures) ∙ ap (λ (f : UnsignedByteField). told (14 ∷ f .value ∷ f .width ∷ [])) (c .before .before .before .before .before .before .before .before .before .before .before .dest-id .ensures)
-    ∙ large-destination _ (sym (c .before .before .before .before .before .before .before .before .before .before .is-width .ensures) ∙ not-false _ (c .before .before .before .before .before .before .before .before .before .if1 .left)) (sym (c .before .before .before .before .before .before .before .before .is-width2 .ensures) ∙ not-false _ (c .before .before .before .before .before .before .before .if2 .left)) (ap fitsField (sym (c .before .before .before .before .before .before .before .before .before .before .before .before .before .source-id .ensures)) ∙ sym (c .before .before .before .before .before .before .fits2 .ensures) ∙ not-false _ (c .before .before .before .before .before .if3 .left)) (sym (c .before .before .before .before .fits3 .ensures) ∙ not-false _ (c .before .before .before .if4 .left)) (ap fitsField (sym (c .before .before .before .before .before .before .before .before .before .before .before .dest-id .ensures)) ∙ sym (c .before .before .fits4 .ensures) ∙ not-true _ (c .before .if5 .taken))
+returns-4 : tie.Need-returns-4
+returns-4 c = let w = passed (widthTests (c .before .before .before .before .before .before .before .before .before .before .before .before .before .args .self .width) (c .before .before .before .before .before .before .before .before .before .before .before .before .before .args .self .sequence .0 .width)) tt tt (ap judgedAnswer (sym (c .before .before .before .before .before .before .before .enum-told .given .1)) ∙ c .before .before .before .before .before .before .before .before .before .judge-widths .ensures) .0 in ap (λ r. headerAnswer (Refused r)) (c .too-large3 .ensures) ∙ ap (λ (f : UnsignedByteField). told (14 ∷ f .value ∷ f .width ∷ [])) (c .before .before .before .before .before .before .before .before .before .before .dest-id .ensures) ∙ large-destination _ w (ap fitsField (sym (c .before .before .before .before .before .before .before .before .before .before .before .before .source-id .ensures)) ∙ sym (c .before .before .before .before .before .before .fits2 .ensures) ∙ not-false _ (c .before .before .before .before .before .if1 .left)) (sym (c .before .before .before .before .fits3 .ensures) ∙ not-false _ (c .before .before .before .if2 .left)) (ap fitsField (sym (c .before .before .before .before .before .before .before .before .before .before .dest-id .ensures)) ∙ sym (c .before .before .fits4 .ensures) ∙ not-true _ (c .before .if3 .taken))
 
-returns-6 : tie.Need-returns-6
-returns-6 c = all-right _ (sym (c .before .before .before .before .before .before .before .before .before .is-width .ensures) ∙ not-false _ (c .before .before .before .before .before .before .before .before .if1 .left)) (sym (c .before .before .before .before .before .before .before .is-width2 .ensures) ∙ not-false _ (c .before .before .before .before .before .before .if2 .left)) (ap fitsField (sym (c .before .before .before .before .before .before .before .before .before .before .before .before .source-id .ensures)) ∙ sym (c .before .before .before .before .before .fits2 .ensures) ∙ not-false _ (c .before .before .before .before .if3 .left)) (sym (c .before .before .before .fits3 .ensures) ∙ not-false _ (c .before .before .if4 .left)) (ap fitsField (sym (c .before .before .before .before .before .before .before .before .before .before .dest-id .ensures)) ∙ sym (c .before .fits4 .ensures) ∙ not-false _ (c .if5 .left))
+returns-5 : tie.Need-returns-5
+returns-5 c = let w = passed (widthTests (c .before .before .before .before .before .before .before .before .before .before .before .before .args .self .width) (c .before .before .before .before .before .before .before .before .before .before .before .before .args .self .sequence .0 .width)) tt tt (ap judgedAnswer (sym (c .before .before .before .before .before .before .enum-told .given .1)) ∙ c .before .before .before .before .before .before .before .before .judge-widths .ensures) .0 in all-right _ w (ap fitsField (sym (c .before .before .before .before .before .before .before .before .before .before .before .source-id .ensures)) ∙ sym (c .before .before .before .before .before .fits2 .ensures) ∙ not-false _ (c .before .before .before .before .if1 .left)) (sym (c .before .before .before .fits3 .ensures) ∙ not-false _ (c .before .before .if2 .left)) (ap fitsField (sym (c .before .before .before .before .before .before .before .before .before .dest-id .ensures)) ∙ sym (c .before .fits4 .ensures) ∙ not-false _ (c .if3 .left))
 
 pub judged-spec : {M : Type 1} → statement M
 judged-spec =
@@ -70,17 +69,17 @@ judged-spec =
     (tie.spec
     source-id-requires
     dest-id-requires
-    is-width-requires
+    judge-widths-requires
+    enum-known-judged
     returns
-    is-width-requires-2
-    returns-2
+    enum-told
     fits-requires
     too-large-requires
-    returns-3
+    returns-2
     fits-requires-2
     too-large-requires-2
-    returns-4
+    returns-3
     fits-requires-3
     too-large-requires-3
-    returns-5
-    returns-6)
+    returns-4
+    returns-5)

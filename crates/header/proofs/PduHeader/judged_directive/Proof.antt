@@ -3,7 +3,7 @@
 use mathlib.Core.Path.{sym, ap, _∙_}
 use Rattle.header.specs.Answers.{headerAnswer}
 use Rattle.header.proofs.Judging.{passed-tests}
-use Rattle.header.proofs.Directives.{refused-record, not-directive, a-directive}
+use Rattle.header.proofs.Pdus.{refused-record, type-decides}
 use borrow.Author.Needs.{needs}
 use Rattle.header.proofs.PduHeader.judged_directive.Statement.{statement}
 use Rattle.header.proofs.PduHeader.judged_directive.Tie as tie
@@ -17,34 +17,16 @@ enum-known-judged c = search needs
 enum-told : tie.Need-enum-told
 enum-told c = search needs
 
-enum-told-2 : tie.Need-enum-told-2
-enum-told-2 c = search needs
+judge-type-requires : tie.Need-judge-type-requires
+judge-type-requires c κs = search needs
 
 returns : tie.Need-returns
-returns c = not-directive _ (passed-tests _ _ (ap headerAnswer (sym (c .before .before .enum-told .given .1)) ∙ c .before .before .before .before .judged .ensures)) (c .enum-told2 .given .1)
-
-enum-told-3 : tie.Need-enum-told-3
-enum-told-3 c = search needs
-
-header-len-requires : tie.Need-header-len-requires
-header-len-requires c κs = search needs
+returns c = refused-record _ _ (ap headerAnswer (sym (c .before .judged2 .given .1)) ∙ c .before .before .before .judged .ensures)
 
 returns-2 : tie.Need-returns-2
-returns-2 c = refused-record _ _ (ap headerAnswer (sym (c .before .judged2 .given .1)) ∙ c .before .before .before .judged .ensures)
-
-returns-3 : tie.Need-returns-3
-returns-3 c = a-directive _ (passed-tests _ _ (ap headerAnswer (sym (c .before .before .before .enum-told .given .1)) ∙ c .before .before .before .before .before .judged .ensures)) _ (c .header-len .ensures .0) (c .before .enum-told3 .given .1)
+returns-2 c = c .judge-type .ensures ∙ type-decides _ (passed-tests _ _ (ap headerAnswer (sym (c .before .enum-told .given .1)) ∙ c .before .before .before .judged .ensures))
 
 pub judged-directive-spec : {M : Type 1} → statement M
 judged-directive-spec =
     tie.close
-    (tie.spec
-    judged-requires
-    enum-known-judged
-    enum-told
-    enum-told-2
-    returns
-    enum-told-3
-    header-len-requires
-    returns-2
-    returns-3)
+    (tie.spec judged-requires enum-known-judged enum-told judge-type-requires returns returns-2)

@@ -1,11 +1,13 @@
 -- `header::read::length_in` meets its contract: each exit's answer is the stages'.
 -- Assumes nothing.
 use Prim.Native.Nat.{_+_, _*_}
-use mathlib.Core.Path.{sym, _∙_}
+use mathlib.Core.Path.{sym, ap, _∙_}
 use native.Mathlib.Omega.{arith}
 use lib.Seq.{length-take-le}
-use borrow.Author.Tests.{not-true, not-false}
-use Rattle.header.proofs.Reading.{short-4, bad-version, bad-entity, bad-sequence, short-h, whole, holds}
+use Rattle.fields.proofs.Judging.{passed}
+use Rattle.header.specs.Answers.{judgedAnswer}
+use Rattle.header.specs.Judging.{widthTests}
+use Rattle.header.proofs.Reading.{short-4, bad-version, bad-widths, short-h, whole, holds}
 use borrow.Author.Needs.{needs}
 use Rattle.header.proofs.read.length_in.Statement.{statement}
 use Rattle.header.proofs.read.length_in.Tie as tie
@@ -34,25 +36,23 @@ shared-slice-read-width-at c = omega (arith, length-take-le 4 (c .before .before
 width-at-requires : tie.Need-width-at-requires
 width-at-requires c κs = search needs
 
-is-width-requires : tie.Need-is-width-requires
-is-width-requires c κs = search needs
-
-returns-3 : tie.Need-returns-3
-returns-3 c =
-    bad-entity _ (omega arith) (sym (c .before .before .before .before .before .three-at .ensures) ∙ c .before .before .before .before .if2 .left) _ (c .before .before .width-at .ensures .0) (sym (c .before .is-width .ensures) ∙ not-true _ (c .if3 .taken))
-
 shared-slice-read-width-at-2 : tie.Need-shared-slice-read-width-at-2
-shared-slice-read-width-at-2 c = omega (arith, length-take-le 4 (c .before .before .before .before .before .before .before .before .before .before .before .args .buf .now) (omega arith))
+shared-slice-read-width-at-2 c = omega (arith, length-take-le 4 (c .before .before .before .before .before .before .before .before .before .args .buf .now) (omega arith))
 
 width-at-requires-2 : tie.Need-width-at-requires-2
 width-at-requires-2 c κs = search needs
 
-is-width-requires-2 : tie.Need-is-width-requires-2
-is-width-requires-2 c κs = search needs
+judge-widths-requires : tie.Need-judge-widths-requires
+judge-widths-requires c κs = search needs
 
-returns-4 : tie.Need-returns-4
-returns-4 c =
-    bad-sequence _ (omega arith) (sym (c .before .before .before .before .before .before .before .before .before .three-at .ensures) ∙ c .before .before .before .before .before .before .before .before .if2 .left) _ (c .before .before .before .before .before .before .width-at .ensures .0) (sym (c .before .before .before .before .before .is-width .ensures) ∙ not-false _ (c .before .before .before .before .if3 .left)) _ (omega arith) (sym (c .before .is-width2 .ensures) ∙ not-true _ (c .if4 .taken))
+enum-known-judged : tie.Need-enum-known-judged
+enum-known-judged c = search needs
+
+returns-3 : tie.Need-returns-3
+returns-3 c = bad-widths _ (omega arith) (sym (c .before .before .before .before .before .before .before .before .before .three-at .ensures) ∙ c .before .before .before .before .before .before .before .before .if2 .left) _ _ (c .before .before .before .before .before .before .width-at .ensures .0) (omega arith) _ (ap judgedAnswer (sym (c .before .judged .given .1)) ∙ c .before .before .before .judge-widths .ensures)
+
+enum-told : tie.Need-enum-told
+enum-told c = search needs
 
 cast-len : tie.Need-cast-len
 cast-len c = search needs
@@ -72,17 +72,11 @@ add-len-2 c = search needs
 short-requires-2 : tie.Need-short-requires-2
 short-requires-2 c κs = search needs
 
-returns-5 : tie.Need-returns-5
-returns-5 c =
-    rw (c .short2 .ensures)
-    (short-h _ (omega arith) (sym (c .before .before .before .before .before .before .before .before .before .before .before .three-at .ensures) ∙ c .before .before .before .before .before .before .before .before .before .before .if2 .left) _ (c .before .before .before .before .before .before .before .before .width-at .ensures .0) (sym (c .before .before .before .before .before .before .before .is-width .ensures) ∙ not-false _ (c .before .before .before .before .before .before .if3 .left)) (c .before .before .before .before .width-at2 .result) (omega arith) (sym (c .before .before .before .is-width2 .ensures) ∙ not-false _ (c .before .before .if4 .left)) _ (omega arith) (c .before .if5 .taken))
+returns-4 : tie.Need-returns-4
+returns-4 c = rw (c .short2 .ensures) (short-h _ (omega arith) (sym (c .before .before .before .before .before .before .before .before .before .before .three-at .ensures) ∙ c .before .before .before .before .before .before .before .before .before .if2 .left) (c .before .before .before .before .before .before .before .width-at .result) (c .before .before .before .before .before .width-at2 .result) (c .before .before .before .before .before .before .before .width-at .ensures .0) (omega arith) (passed (widthTests (c .before .before .before .before .before .before .before .width-at .result) (c .before .before .before .before .before .width-at2 .result)) tt tt (ap judgedAnswer (sym (c .before .before .enum-told .given .1)) ∙ c .before .before .before .before .judge-widths .ensures) .0) _ (omega arith) (c .before .if3 .taken))
 
-returns-6 : tie.Need-returns-6
-returns-6 c = (
-  omega arith,
-  holds (c .before .before .before .before .before .before .before .before .before .before .before .before .before .before .before .args .buf .now) (4 + 2 * c .before .before .before .before .before .before .before .width-at .result + c .before .before .before .width-at2 .result) (omega arith) (omega arith),
-  whole _ (omega arith) (sym (c .before .before .before .before .before .before .before .before .before .before .three-at .ensures) ∙ c .before .before .before .before .before .before .before .before .before .if2 .left) _ (c .before .before .before .before .before .before .before .width-at .ensures .0) (sym (c .before .before .before .before .before .before .is-width .ensures) ∙ not-false _ (c .before .before .before .before .before .if3 .left)) (c .before .before .before .width-at2 .result) (omega arith) (sym (c .before .before .is-width2 .ensures) ∙ not-false _ (c .before .if4 .left)) (4 + 2 * c .before .before .before .before .before .before .before .width-at .result + c .before .before .before .width-at2 .result) (omega arith) (omega arith),
-)
+returns-5 : tie.Need-returns-5
+returns-5 c = let h = 4 + 2 * c .before .before .before .before .before .before .width-at .result + c .before .before .before .before .width-at2 .result in (omega arith, holds (c .before .before .before .before .before .before .before .before .before .before .before .before .before .before .args .buf .now) h (omega arith) (omega arith), whole _ (omega arith) (sym (c .before .before .before .before .before .before .before .before .before .three-at .ensures) ∙ c .before .before .before .before .before .before .before .before .if2 .left) (c .before .before .before .before .before .before .width-at .result) (c .before .before .before .before .width-at2 .result) (c .before .before .before .before .before .before .width-at .ensures .0) (omega arith) (passed (widthTests (c .before .before .before .before .before .before .width-at .result) (c .before .before .before .before .width-at2 .result)) tt tt (ap judgedAnswer (sym (c .before .enum-told .given .1)) ∙ c .before .before .before .judge-widths .ensures) .0) h (omega arith) (omega arith))
 
 pub length-in-spec : {M : Type 1} → statement M
 length-in-spec =
@@ -96,17 +90,17 @@ length-in-spec =
     returns-2
     shared-slice-read-width-at
     width-at-requires
-    is-width-requires
-    returns-3
     shared-slice-read-width-at-2
     width-at-requires-2
-    is-width-requires-2
-    returns-4
+    judge-widths-requires
+    enum-known-judged
+    returns-3
+    enum-told
     cast-len
     mul-len
     add-len
     cast-len-2
     add-len-2
     short-requires-2
-    returns-5
-    returns-6)
+    returns-4
+    returns-5)

@@ -1,11 +1,10 @@
 -- `header::write::writable` meets its contract: each exit's answer is the definition's.
 -- Assumes nothing.
-use Prim.Native.Nat.{ℕ}
 use mathlib.Core.Path.{sym, ap, _∙_}
 use mathlib.Core.List.{[], _∷_}
-use native.Mathlib.Omega.{arith}
-use Rattle.fields.specs.Answer.{told, accepted}
-use Rattle.header.specs.Answers.{headerAnswer, lengthAnswer}
+use Rattle.fields.proofs.Judging.{passed}
+use Rattle.header.specs.Answers.{headerAnswer, judgedAnswer}
+use Rattle.header.specs.Writing.{noRoom}
 use Rattle.header.proofs.Judging.{passed-tests}
 use Rattle.header.proofs.Writing.{refused-record, short-of-h, enough}
 use borrow.Author.Needs.{needs}
@@ -24,18 +23,23 @@ enum-told c = search needs
 header-len-requires : tie.Need-header-len-requires
 header-len-requires c κs = search needs
 
-no-room-requires : tie.Need-no-room-requires
-no-room-requires c κs = search needs
+judge-room-requires : tie.Need-judge-room-requires
+judge-room-requires c κs = search needs
+
+enum-known-judged-2 : tie.Need-enum-known-judged-2
+enum-known-judged-2 c = search needs
+
+enum-told-2 : tie.Need-enum-told-2
+enum-told-2 c = search needs
 
 returns : tie.Need-returns
-returns c = ap lengthAnswer (c .no-room .ensures) ∙ ap (λ (n : ℕ). told (11 ∷ c .before .before .before .before .before .before .args .room ∷ n ∷ [])) (c .before .before .header-len .ensures .0)
-    ∙ short-of-h _ (passed-tests _ _ (ap headerAnswer (sym (c .before .before .before .enum-told .given .1)) ∙ c .before .before .before .before .before .judged .ensures)) _ (omega arith)
+returns c = refused-record _ _ _ (ap headerAnswer (sym (c .before .judged2 .given .1)) ∙ c .before .before .before .judged .ensures)
 
 returns-2 : tie.Need-returns-2
-returns-2 c = refused-record _ _ _ (ap headerAnswer (sym (c .before .judged2 .given .1)) ∙ c .before .before .before .judged .ensures)
+returns-2 c = short-of-h _ (passed-tests _ _ (ap headerAnswer (sym (c .before .before .before .before .before .enum-told .given .1)) ∙ c .before .before .before .before .before .before .before .judged .ensures)) _ _ _ (c .before .before .before .before .header-len .ensures .0) (ap judgedAnswer (sym (c .before .judged3 .given .1)) ∙ c .before .before .before .judge-room .ensures)
 
 returns-3 : tie.Need-returns-3
-returns-3 c = ap accepted (c .before .header-len .ensures .0) ∙ enough _ (passed-tests _ _ (ap headerAnswer (sym (c .before .before .enum-told .given .1)) ∙ c .before .before .before .before .judged .ensures)) _ (omega arith)
+returns-3 c = enough _ (passed-tests _ _ (ap headerAnswer (sym (c .before .before .before .before .enum-told .given .1)) ∙ c .before .before .before .before .before .before .judged .ensures)) _ _ (c .before .before .before .header-len .ensures .0) (passed (noRoom (c .before .before .before .before .before .before .before .args .room) (c .before .before .before .header-len .result) ∷ []) tt tt (ap judgedAnswer (sym (c .enum-told2 .given .1)) ∙ c .before .before .judge-room .ensures) .0)
 
 pub writable-spec : {M : Type 1} → statement M
 writable-spec =
@@ -45,7 +49,9 @@ writable-spec =
     enum-known-judged
     enum-told
     header-len-requires
-    no-room-requires
+    judge-room-requires
+    enum-known-judged-2
+    enum-told-2
     returns
     returns-2
     returns-3)

@@ -1,51 +1,72 @@
--- `nak::compare::compare_read` meets its contract: the writer's refusal, header or scope differ, or the list decides.
+-- `nak::compare::compare_read` meets its contract: the record's refusal, the NAK's own, or header and scope and the list decide.
 -- Assumes nothing.
-use mathlib.Core.Path.{sym, ap, _∙_}
+use mathlib.Core.Path.{refl, sym, ap, _∙_}
 use borrow.Author.Tests.{not-true, not-false}
-use Rattle.header.specs.Answers.{lengthAnswer}
-use Rattle.nak.proofs.Writing.{judged-fits, refused-judged, judged-filled}
-use Rattle.nak.proofs.Comparing.{refused-judging, not-alike, alike}
+use Rattle.header.specs.Answers.{judgedAnswer}
+use Rattle.header.specs.Pdu.{dataAnswer}
+use Rattle.header.proofs.Pdus.{passed-directive}
+use Rattle.nak.proofs.Comparing.{refused-record, refused-own, judged-filled, refused-judging, not-alike, alike}
 use borrow.Author.Needs.{needs}
 use Rattle.nak.proofs.compare.compare_read.Statement.{statement}
 use Rattle.nak.proofs.compare.compare_read.Tie as tie
 
-judge-nak-requires : tie.Need-judge-nak-requires
-judge-nak-requires c κs = search needs
+judged-directive-requires : tie.Need-judged-directive-requires
+judged-directive-requires c κs = search needs
 
 enum-known-judged : tie.Need-enum-known-judged
 enum-known-judged c = search needs
 
+returns : tie.Need-returns
+returns c = refused-judging _ _ _ _ _ _ _ _ (refused-record _ _ _ _ _ _ (ap judgedAnswer (sym (c .before .judged .given .1)) ∙ c .before .before .before .judged-directive .ensures))
+
 enum-told : tie.Need-enum-told
 enum-told c = search needs
 
-fill-requires : tie.Need-fill-requires
-fill-requires c κs = judged-fits _ _ _ _ _ _ (ap lengthAnswer (sym (c .enum-told .given .1)) ∙ c .before .before .judge-nak .ensures)
+data-length-requires : tie.Need-data-length-requires
+data-length-requires c κs = search needs
+
+enum-known-own : tie.Need-enum-known-own
+enum-known-own c = search needs
+
+enum-known-own-2 : tie.Need-enum-known-own-2
+enum-known-own-2 c = search needs
+
+towards-sender-requires : tie.Need-towards-sender-requires
+towards-sender-requires c κs = search needs
+
+with-datafield-len-requires : tie.Need-with-datafield-len-requires
+with-datafield-len-requires c κs = search needs
 
 same-nak-requires : tie.Need-same-nak-requires
 same-nak-requires c κs = search needs
 
-returns : tie.Need-returns
-returns c = not-alike _ _ _ _ _ _ _ _ (judged-filled _ _ _ _ _ _ (ap lengthAnswer (sym (c .before .before .before .enum-told .given .1)) ∙ c .before .before .before .before .before .judge-nak .ensures)) _ _ (c .before .before .fill .ensures) (c .before .same-nak .ensures) (not-true _ (c .if1 .taken))
+returns-2 : tie.Need-returns-2
+returns-2 c = not-alike _ _ _ _ _ _ _ _ (judged-filled _ _ _ _ _ (passed-directive _ (ap judgedAnswer (sym (c .before .before .before .before .before .before .before .before .enum-told .given .1)) ∙ c .before .before .before .before .before .before .before .before .before .before .judged-directive .ensures)) _ (c .before .before .before .before .before .before .before .data-length .ensures) _ _ _ (ap dataAnswer (sym (c .before .before .before .before .before .own2 .given .1))) (c .before .before .before .towards-sender .ensures) (c .before .before .with-datafield-len .ensures)) _ _ refl (c .before .same-nak .ensures) (not-true _ (c .if1 .taken))
 
 verdict-requires : tie.Need-verdict-requires
 verdict-requires c κs = search needs
 
-returns-2 : tie.Need-returns-2
-returns-2 c = refused-judging _ _ _ _ _ _ _ _ (refused-judged _ _ _ _ _ _ (ap lengthAnswer (sym (c .before .judged .given .1)) ∙ c .before .before .before .judge-nak .ensures))
-
 returns-3 : tie.Need-returns-3
-returns-3 c = c .verdict .ensures ∙ alike _ _ _ _ _ _ _ _ (judged-filled _ _ _ _ _ _ (ap lengthAnswer (sym (c .before .before .before .before .enum-told .given .1)) ∙ c .before .before .before .before .before .before .judge-nak .ensures)) _ _ (c .before .before .before .fill .ensures) (c .before .before .same-nak .ensures) (not-false _ (c .before .if1 .left))
+returns-3 c = refused-judging _ _ _ _ _ _ _ _ (refused-own _ _ _ _ _ (passed-directive _ (ap judgedAnswer (sym (c .before .before .before .before .enum-told .given .1)) ∙ c .before .before .before .before .before .before .judged-directive .ensures)) _ (c .before .before .before .data-length .ensures) _ (ap dataAnswer (sym (c .before .own .given .1))))
+
+returns-4 : tie.Need-returns-4
+returns-4 c = c .verdict .ensures ∙ alike _ _ _ _ _ _ _ _ (judged-filled _ _ _ _ _ (passed-directive _ (ap judgedAnswer (sym (c .before .before .before .before .before .before .before .before .before .enum-told .given .1)) ∙ c .before .before .before .before .before .before .before .before .before .before .before .judged-directive .ensures)) _ (c .before .before .before .before .before .before .before .before .data-length .ensures) _ _ _ (ap dataAnswer (sym (c .before .before .before .before .before .before .own2 .given .1))) (c .before .before .before .before .towards-sender .ensures) (c .before .before .before .with-datafield-len .ensures)) _ _ refl (c .before .before .same-nak .ensures) (not-false _ (c .before .if1 .left))
 
 pub compare-read-spec : {M : Type 1} → statement M
 compare-read-spec =
     tie.close
     (tie.spec
-    judge-nak-requires
+    judged-directive-requires
     enum-known-judged
-    enum-told
-    fill-requires
-    same-nak-requires
     returns
-    verdict-requires
+    enum-told
+    data-length-requires
+    enum-known-own
+    enum-known-own-2
+    towards-sender-requires
+    with-datafield-len-requires
+    same-nak-requires
     returns-2
-    returns-3)
+    verdict-requires
+    returns-3
+    returns-4)

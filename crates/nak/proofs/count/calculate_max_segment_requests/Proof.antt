@@ -1,9 +1,9 @@
--- `nak::count::calculate_max_segment_requests` meets its contract: each exit's answer is the rule's.
+-- `nak::count::calculate_max_segment_requests` meets its contract: the record's refusal, 15, or the smaller of both counts.
 -- Assumes nothing.
-use Prim.Native.Nat.{ℕ, _*_}
 use mathlib.Core.Path.{sym, ap, _∙_}
-use Rattle.header.specs.Answers.{lengthAnswer}
-use Rattle.header.proofs.Directives.{passed-directive}
+use native.Mathlib.Omega.{arith}
+use Rattle.header.specs.Answers.{judgedAnswer}
+use Rattle.header.proofs.Pdus.{passed-directive}
 use Rattle.nak.proofs.Counting.{refused-count, too-small, limited, counted}
 use borrow.Author.Needs.{needs}
 use Rattle.nak.proofs.count.calculate_max_segment_requests.Statement.{statement}
@@ -22,10 +22,10 @@ least-packet-requires : tie.Need-least-packet-requires
 least-packet-requires c κs = search needs
 
 returns : tie.Need-returns
-returns c = too-small _ _ (passed-directive _ _ (ap lengthAnswer (sym (c .before .before .enum-told .given .1)) ∙ c .before .before .before .before .judged-directive .ensures)) _ (c .before .least-packet .ensures .0) (c .if1 .taken)
+returns c = too-small _ _ (passed-directive _ (ap judgedAnswer (sym (c .before .before .enum-told .given .1)) ∙ c .before .before .before .before .judged-directive .ensures)) _ (c .before .least-packet .ensures .0) (c .if1 .taken)
 
-offset-width-requires : tie.Need-offset-width-requires
-offset-width-requires c κs = search needs
+size-width-requires : tie.Need-size-width-requires
+size-width-requires c κs = search needs
 
 mul-by-size : tie.Need-mul-by-size
 mul-by-size c = search needs
@@ -37,13 +37,13 @@ most-pairs-requires : tie.Need-most-pairs-requires
 most-pairs-requires c κs = search needs
 
 returns-2 : tie.Need-returns-2
-returns-2 c = limited _ _ (passed-directive _ _ (ap lengthAnswer (sym (c .before .before .before .before .before .enum-told .given .1)) ∙ c .before .before .before .before .before .before .before .judged-directive .ensures)) _ (c .before .before .before .before .least-packet .ensures .0) _ _ (ap (λ (n : ℕ). 2 * n) (c .before .before .offset-width .ensures .0)) (c .before .most-pairs .ensures) (c .before .before .before .if1 .left) (c .if2 .taken)
+returns-2 c = limited _ _ (passed-directive _ (ap judgedAnswer (sym (c .before .before .before .before .before .enum-told .given .1)) ∙ c .before .before .before .before .before .before .before .judged-directive .ensures)) _ (c .before .before .before .before .least-packet .ensures .0) _ _ (rw (c .before .before .size-width .ensures .0)) (c .before .most-pairs .ensures) (c .before .before .before .if1 .left) (c .if2 .taken)
 
 returns-3 : tie.Need-returns-3
-returns-3 c = refused-count _ _ _ (ap lengthAnswer (sym (c .before .judged .given .1)) ∙ c .before .before .before .judged-directive .ensures)
+returns-3 c = refused-count _ _ _ (ap judgedAnswer (sym (c .before .judged .given .1)) ∙ c .before .before .before .judged-directive .ensures)
 
 returns-4 : tie.Need-returns-4
-returns-4 c = counted _ _ (passed-directive _ _ (ap lengthAnswer (sym (c .before .before .before .before .before .enum-told .given .1)) ∙ c .before .before .before .before .before .before .before .judged-directive .ensures)) _ (c .before .before .before .before .least-packet .ensures .0) _ _ (ap (λ (n : ℕ). 2 * n) (c .before .before .offset-width .ensures .0)) (c .before .most-pairs .ensures) (c .before .before .before .if1 .left) (c .if2 .left)
+returns-4 c = counted _ _ (passed-directive _ (ap judgedAnswer (sym (c .before .before .before .before .before .enum-told .given .1)) ∙ c .before .before .before .before .before .before .before .judged-directive .ensures)) _ (c .before .before .before .before .least-packet .ensures .0) _ _ (rw (c .before .before .size-width .ensures .0)) (c .before .most-pairs .ensures) (c .before .before .before .if1 .left) (c .if2 .left)
 
 pub calculate-max-segment-requests-spec : {M : Type 1} → statement M
 calculate-max-segment-requests-spec =
@@ -54,7 +54,7 @@ calculate-max-segment-requests-spec =
     enum-told
     least-packet-requires
     returns
-    offset-width-requires
+    size-width-requires
     mul-by-size
     div-by-size
     most-pairs-requires

@@ -1,4 +1,4 @@
--- `nak::count::least_packet` meets its contract: up to the requests, and the checksum.
+-- `nak::count::least_packet` meets its contract: where the requests start, and a checksum.
 -- Assumes nothing.
 use native.Mathlib.Omega.{arith}
 use Rattle.nak.proofs.Counting.{least-is}

@@ -1,37 +1,24 @@
--- `nak::read::nak_in` meets its contract: each part is what the definition says.
+-- `nak::read::nak_in` meets its contract: each number is read at its place.
 -- Assumes nothing.
-use native.Mathlib.Omega.{arith}
-use Rattle.nak.proofs.Reading.{area-is, nak-is}
+use Rattle.nak.proofs.Reading.{nak-is}
 use borrow.Author.Needs.{needs}
 use Rattle.nak.proofs.read.nak_in.Statement.{statement}
 use Rattle.nak.proofs.read.nak_in.Tie as tie
 
-offset-width-requires : tie.Need-offset-width-requires
-offset-width-requires c κs = search needs
+size-width-requires : tie.Need-size-width-requires
+size-width-requires c κs = search needs
 
-header-len-requires : tie.Need-header-len-requires
-header-len-requires c κs = search needs
+read-size-requires : tie.Need-read-size-requires
+read-size-requires c κs = search needs
 
-add-scope : tie.Need-add-scope
-add-scope c = search needs
+add-read-size : tie.Need-add-read-size
+add-read-size c = search needs
 
-add-second : tie.Need-add-second
-add-second c = search needs
-
-mul-area : tie.Need-mul-area
-mul-area c = search needs
-
-add-area : tie.Need-add-area
-add-area c = search needs
-
-offset-at-requires : tie.Need-offset-at-requires
-offset-at-requires c κs = omega (arith, area-is _ _ _ (c .header-len .ensures .0) (c .before .offset-width .ensures .0), c .before .offset-width .ensures .0, c .before .before .before .pre .1, c .before .before .before .pre .2)
-
-offset-at-requires-2 : tie.Need-offset-at-requires-2
-offset-at-requires-2 c κs = omega (arith, area-is _ _ _ (c .before .header-len .ensures .0) (c .before .before .offset-width .ensures .0), c .before .before .offset-width .ensures .0, c .before .before .before .before .pre .1, c .before .before .before .before .pre .2)
+read-size-requires-2 : tie.Need-read-size-requires-2
+read-size-requires-2 c κs = search needs
 
 sub-count : tie.Need-sub-count
-sub-count c = omega (arith, area-is _ _ _ (c .before .before .header-len .ensures .0) (c .before .before .before .offset-width .ensures .0))
+sub-count c = search needs
 
 mul-count : tie.Need-mul-count
 mul-count c = search needs
@@ -40,21 +27,16 @@ div-count : tie.Need-div-count
 div-count c = search needs
 
 returns : tie.Need-returns
-returns c =
-    nak-is _ _ _ _ _ _ _ (c .before .before .header-len .ensures .0) (c .before .before .before .offset-width .ensures .0) (c .before .before .before .before .before .pre .0) (c .before .offset-at .ensures) (c .offset-at2 .ensures)
+returns c = nak-is _ _ _ _ _ _ _ (c .before .before .before .before .pre .0) (c .before .before .before .before .pre .1) (c .before .before .before .before .pre .2) (c .before .before .before .before .pre .3) (c .before .before .size-width .ensures .0) (c .before .read-size .ensures) (c .read-size2 .ensures)
 
 pub nak-in-spec : {M : Type 1} → statement M
 nak-in-spec =
     tie.close
     (tie.spec
-    offset-width-requires
-    header-len-requires
-    add-scope
-    add-second
-    mul-area
-    add-area
-    offset-at-requires
-    offset-at-requires-2
+    size-width-requires
+    read-size-requires
+    add-read-size
+    read-size-requires-2
     sub-count
     mul-count
     div-count

@@ -1,4 +1,4 @@
--- `nak::reserve::place` meets its contract: the request area's two ends.
+-- `nak::reserve::place` meets its contract: where the requests start and stop.
 -- Assumes nothing.
 use Rattle.nak.proofs.Reserving.{place-is}
 use borrow.Author.Needs.{needs}

@@ -1,60 +1,62 @@
--- `nak::write::data_length` meets its contract: the scope and so many pairs have at most 65,528 bytes.
+-- `nak::write::data_length` meets its contract: 12, 9, 10, or the length of so many pairs.
 -- Assumes nothing.
-use native.Mathlib.Omega.{arith}
-use Rattle.nak.proofs.Writing.{pairs-bytes, data-is}
+use mathlib.Core.Path.{sym, ap, _∙_}
+use mathlib.Core.List.{[], _∷_}
+use Prim.Native.Nat.{_/_}
+use Rattle.fields.specs.Answer.{accepted}
+use Rattle.fields.proofs.Judging.{judged-passed}
+use Rattle.header.specs.Answers.{judgedAnswer}
+use Rattle.nak.specs.Writing.{tooMany}
+use Rattle.nak.proofs.Tests.{odd-count, bad-scope, too-many, none-holds, pairs-fit}
 use borrow.Author.Needs.{needs}
 use Rattle.nak.proofs.write.data_length.Statement.{statement}
 use Rattle.nak.proofs.write.data_length.Tie as tie
 
-offset-width-requires : tie.Need-offset-width-requires
-offset-width-requires c κs = search needs
-
-mul-pair : tie.Need-mul-pair
-mul-pair c = search needs
-
-bit-requires : tie.Need-bit-requires
-bit-requires c κs = search needs
-
-cast-sum : tie.Need-cast-sum
-cast-sum c = search needs
-
-mul-sum : tie.Need-mul-sum
-mul-sum c = search needs
-
-add-wide : tie.Need-add-wide
-add-wide c = search needs
-
-mul-wide : tie.Need-mul-wide
-mul-wide c =
-    omega (arith, pairs-bytes (c .before .before .args .file) (c .before .before .args .pairs) (c .before .offset-width .result) (c .before .before .pre) (c .before .offset-width .ensures .0))
-
-add-wide-2 : tie.Need-add-wide-2
-add-wide-2 c =
-    omega (arith, pairs-bytes (c .before .before .args .file) (c .before .before .args .pairs) (c .before .offset-width .result) (c .before .before .pre) (c .before .offset-width .ensures .0))
-
-add-wide-3 : tie.Need-add-wide-3
-add-wide-3 c =
-    omega (arith, pairs-bytes (c .before .before .args .file) (c .before .before .args .pairs) (c .before .offset-width .result) (c .before .before .pre) (c .before .offset-width .ensures .0))
-
-cast-result : tie.Need-cast-result
-cast-result c =
-    omega (arith, pairs-bytes (c .before .before .args .file) (c .before .before .args .pairs) (c .before .offset-width .result) (c .before .before .pre) (c .before .offset-width .ensures .0))
-
 returns : tie.Need-returns
-returns c = data-is _ _ _ _ _ (c .before .offset-width .ensures .0) (c .bit .ensures .0)
+returns c = odd-count _ _ _ _ _ (c .if1 .taken)
+
+judge-scope-requires : tie.Need-judge-scope-requires
+judge-scope-requires c κs = search needs
+
+enum-known-scope : tie.Need-enum-known-scope
+enum-known-scope c = search needs
+
+returns-2 : tie.Need-returns-2
+returns-2 c = bad-scope _ _ _ _ _ (c .before .before .before .before .if1 .left) _ (ap judgedAnswer (sym (c .before .scope .given .1)) ∙ c .before .before .before .judge-scope .ensures)
+
+enum-told : tie.Need-enum-told
+enum-told c = search needs
+
+judge-pairs-requires : tie.Need-judge-pairs-requires
+judge-pairs-requires c κs = search needs
+
+enum-known-few : tie.Need-enum-known-few
+enum-known-few c = search needs
+
+returns-3 : tie.Need-returns-3
+returns-3 c = too-many _ _ _ _ _ (c .before .before .before .before .before .before .before .if1 .left) (ap judgedAnswer (sym (c .before .before .before .before .enum-told .given .1)) ∙ c .before .before .before .before .before .before .judge-scope .ensures) _ (ap judgedAnswer (sym (c .before .few .given .1)) ∙ c .before .before .before .judge-pairs .ensures)
+
+enum-told-2 : tie.Need-enum-told-2
+enum-told-2 c = search needs
+
+length-of-requires : tie.Need-length-of-requires
+length-of-requires c κs = pairs-fit (c .before .before .before .before .before .before .before .args .file) (c .before .before .before .before .before .before .before .args .count / 2) (judged-passed (tooMany (c .before .before .before .before .before .before .before .args .file) (c .before .before .before .before .before .before .before .args .count / 2) ∷ []) (ap judgedAnswer (sym (c .enum-told2 .given .1)) ∙ c .before .before .judge-pairs .ensures))
+
+returns-4 : tie.Need-returns-4
+returns-4 c = ap accepted (c .length-of .ensures) ∙ none-holds _ _ _ _ _ (c .before .before .before .before .before .before .before .if1 .left) (ap judgedAnswer (sym (c .before .before .before .before .enum-told .given .1)) ∙ c .before .before .before .before .before .before .judge-scope .ensures) (ap judgedAnswer (sym (c .before .enum-told2 .given .1)) ∙ c .before .before .before .judge-pairs .ensures)
 
 pub data-length-spec : {M : Type 1} → statement M
 data-length-spec =
     tie.close
     (tie.spec
-    offset-width-requires
-    mul-pair
-    bit-requires
-    cast-sum
-    mul-sum
-    add-wide
-    mul-wide
-    add-wide-2
-    add-wide-3
-    cast-result
-    returns)
+    returns
+    judge-scope-requires
+    enum-known-scope
+    returns-2
+    enum-told
+    judge-pairs-requires
+    enum-known-few
+    returns-3
+    enum-told-2
+    length-of-requires
+    returns-4)

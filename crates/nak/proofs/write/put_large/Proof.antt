@@ -9,7 +9,7 @@ use lib.Seq.{sets}
 use Rattle.fields.proofs.BigEndian.{put-length}
 use Rattle.nak.specs.Writing.{numbersBytes}
 use Rattle.fields.proofs.Parts.{part-put}
-use Rattle.nak.proofs.Writing.{number-turn, numbers-done}
+use Rattle.nak.proofs.Storing.{number-turn, numbers-done}
 use borrow.Author.Needs.{needs}
 use Rattle.nak.proofs.write.put_large.Statement.{statement}
 use Rattle.nak.proofs.write.put_large.Tie as tie

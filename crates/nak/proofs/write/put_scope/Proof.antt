@@ -1,6 +1,8 @@
--- `nak::write::put_scope` meets its contract: directive and scope, each behind the one before.
+-- `nak::write::put_scope` meets its contract: the code, start and end, one behind the other.
 -- Assumes nothing.
-use Rattle.nak.proofs.Writing.{scope-stored}
+use native.Mathlib.Omega.{arith}
+use Rattle.nak.proofs.Tests.{scope-passed}
+use Rattle.nak.proofs.Storing.{scope-stored}
 use borrow.Author.Needs.{needs}
 use Rattle.nak.proofs.write.put_scope.Statement.{statement}
 use Rattle.nak.proofs.write.put_scope.Tie as tie
@@ -8,14 +10,17 @@ use Rattle.nak.proofs.write.put_scope.Tie as tie
 header-len-requires : tie.Need-header-len-requires
 header-len-requires c κs = search needs
 
-offset-width-requires : tie.Need-offset-width-requires
-offset-width-requires c κs = search needs
+size-width-requires : tie.Need-size-width-requires
+size-width-requires c κs = search needs
 
 add-first : tie.Need-add-first
 add-first c = search needs
 
 add-second : tie.Need-add-second
 add-second c = search needs
+
+cast-write-be : tie.Need-cast-write-be
+cast-write-be c = search needs
 
 write-be-requires : tie.Need-write-be-requires
 write-be-requires c κs = search needs
@@ -30,7 +35,19 @@ same-length : tie.Need-same-length
 same-length c = search needs
 
 returns : tie.Need-returns
-returns c = scope-stored _ _ _ _ _ _ _ _ _ (c .before .before .before .before .before .before .before .before .before .before .before .before .before .before .before .pre .0) (c .before .before .before .before .before .before .before .before .before .before .before .before .before .before .before .pre .1) (c .before .before .before .before .before .before .before .before .before .before .before .before .before .header-len .ensures .0) (c .before .before .before .before .before .before .before .before .before .before .before .before .offset-width .ensures .0) (c .before .before .before .before .before .before .before .before .before .before .before .before .offset-width .ensures .2) (c .before .before .before .before .before .before .before .before .before .before .write-be .ensures) (c .before .before .before .before .before .before .write-be2 .ensures) (c .before .before .write-be3 .ensures)
+returns c = scope-stored _ _ _ _ _ _ _ _ _ (c .before .before .before .before .before .before .before .before .before .before .before .before .before .before .before .pre .0) (scope-passed _ _ _ (omega arith) (omega arith) (c .before .before .before .before .before .before .before .before .before .before .before .before .before .before .before .pre .1)) (c .before .before .before .before .before .before .before .before .before .before .before .before .before .header-len .ensures .0) (c .before .before .before .before .before .before .before .before .before .before .before .before .size-width .ensures .0) (omega arith) (c .before .before .before .before .before .before .before .before .before .before .write-be .ensures) (c .before .before .before .before .before .before .write-be2 .ensures) (c .before .before .write-be3 .ensures)
 
 pub put-scope-spec : {M : Type 1} → statement M
-put-scope-spec = tie.close (tie.spec header-len-requires offset-width-requires add-first add-second write-be-requires write-be-requires-2 write-be-requires-3 same-length returns)
+put-scope-spec =
+    tie.close
+    (tie.spec
+    header-len-requires
+    size-width-requires
+    add-first
+    add-second
+    cast-write-be
+    write-be-requires
+    write-be-requires-2
+    write-be-requires-3
+    same-length
+    returns)

@@ -1,30 +1,21 @@
--- `nak::write::write_no_segment_requests` meets its contract: a refusal that changes nothing, or start and checksum.
+-- `nak::write::write_no_segment_requests` meets its contract: header, scope and checksum, one behind the other, or no byte changed.
 -- Assumes nothing.
 use mathlib.Core.Path.{sym, ap, _∙_}
 use mathlib.Core.List.{[]}
-use Rattle.header.specs.Answers.{lengthAnswer}
-use Rattle.nak.proofs.Writing.{own-fits, own-scope, scope-goes, not-own, not-header, none-written}
+use Rattle.header.specs.Pdu.{writeAnswer}
+use Rattle.nak.proofs.Writing.{not-written, scope-goes, none-written}
 use borrow.Author.Needs.{needs}
 use Rattle.nak.proofs.write.write_no_segment_requests.Statement.{statement}
 use Rattle.nak.proofs.write.write_no_segment_requests.Tie as tie
 
-judge-own-requires : tie.Need-judge-own-requires
-judge-own-requires c κs = search needs
+data-length-requires : tie.Need-data-length-requires
+data-length-requires c κs = search needs
 
-enum-known-judged : tie.Need-enum-known-judged
-enum-known-judged c = search needs
+towards-sender-requires : tie.Need-towards-sender-requires
+towards-sender-requires c κs = search needs
 
-behind-record-requires : tie.Need-behind-record-requires
-behind-record-requires c κs = search needs
-
-enum-known-judged-2 : tie.Need-enum-known-judged-2
-enum-known-judged-2 c = search needs
-
-fill-requires : tie.Need-fill-requires
-fill-requires c κs = own-fits _ _ _ _ _ (ap lengthAnswer (sym (c .before .judged2 .given .1)) ∙ c .before .before .before .judge-own .ensures)
-
-write-directive-header-requires : tie.Need-write-directive-header-requires
-write-directive-header-requires c κs = search needs
+begin-write-requires : tie.Need-begin-write-requires
+begin-write-requires c κs = search needs
 
 enum-known-begun : tie.Need-enum-known-begun
 enum-known-begun c = search needs
@@ -33,28 +24,35 @@ enum-known-begun-2 : tie.Need-enum-known-begun-2
 enum-known-begun-2 c = search needs
 
 put-scope-requires : tie.Need-put-scope-requires
-put-scope-requires c κs = scope-goes _ _ _ _ _ _ (ap lengthAnswer (sym (c .before .before .begun2 .given .1)) ∙ c .before .before .before .before .before .before .write-directive-header .ensures .0) (c .before .before .before .before .before .before .write-directive-header .ensures .1) _ _ _ (c .before .before .before .before .before .before .before .before .fill .ensures) (own-scope _ _ _ _ _ (ap lengthAnswer (sym (c .before .before .before .before .before .before .before .before .before .before .judged2 .given .1)) ∙ c .before .before .before .before .before .before .before .before .before .before .before .before .judge-own .ensures))
+put-scope-requires c κs = scope-goes (c .before .before .before .before .before .before .before .before .before .before .before .before .args .header .file) (c .before .before .before .before .before .before .before .before .before .before .before .before .args .header) (c .before .before .before .before .before .before .before .before .before .before .before .before .args .start) (c .before .before .before .before .before .before .before .before .before .before .before .before .args .end) [] (c .before .before .before .before .before .before .before .before .before .before .before .before .args .buf .now) _ (c .before .before .before .before .before .before .before .before .before .towards-sender .ensures) _ (c .before .before .before .before .before .before .before .before .before .before .data-length .ensures) _ _ (ap writeAnswer (sym (c .before .before .before .begun2 .given .1)) ∙ c .before .before .before .before .before .before .before .begin-write .ensures .0) (c .before .before .before .before .before .before .before .begin-write .ensures .1)
 
-data-end-requires : tie.Need-data-end-requires
-data-end-requires c κs = search needs
-
-add-pdu-crc-requires : tie.Need-add-pdu-crc-requires
-add-pdu-crc-requires c κs = search needs
-
-returns : tie.Need-returns
-returns c = not-own _ _ _ _ [] _ _ _ (ap lengthAnswer (sym (c .before .before .judged .given .1)) ∙ c .before .before .before .before .judge-own .ensures) (c .behind-record .ensures)
+seal-requires : tie.Need-seal-requires
+seal-requires c κs = search needs
 
 same-length : tie.Need-same-length
 same-length c = search needs
 
-returns-2 : tie.Need-returns-2
-returns-2 c = not-header _ _ _ _ _ [] _ (ap lengthAnswer (sym (c .before .before .before .before .before .before .before .before .before .judged2 .given .1)) ∙ c .before .before .before .before .before .before .before .before .before .before .before .judge-own .ensures) _ (c .before .before .before .before .before .before .before .fill .ensures) _ _ (ap lengthAnswer (sym (c .before .begun .given .1)) ∙ c .before .before .before .before .before .write-directive-header .ensures .0) (c .before .before .before .before .before .write-directive-header .ensures .1)
+returns : tie.Need-returns
+returns c = not-written _ _ _ _ [] _ _ (c .before .before .before .before .before .before .before .towards-sender .ensures) _ (c .before .before .before .before .before .before .before .before .data-length .ensures) _ _ (ap writeAnswer (sym (c .before .begun .given .1)) ∙ c .before .before .before .before .before .begin-write .ensures .0) (c .before .before .before .before .before .begin-write .ensures .1)
 
 same-length-2 : tie.Need-same-length-2
 same-length-2 c = search needs
 
-returns-3 : tie.Need-returns-3
-returns-3 c = none-written _ _ _ _ _ _ (ap lengthAnswer (sym (c .before .before .before .before .before .before .before .before .before .before .before .before .before .before .before .before .before .before .judged2 .given .1)) ∙ c .before .before .before .before .before .before .before .before .before .before .before .before .before .before .before .before .before .before .before .before .judge-own .ensures) _ (c .before .before .before .before .before .before .before .before .before .before .before .before .before .before .before .before .fill .ensures) _ _ _ _ _ (ap lengthAnswer (sym (c .before .before .before .before .before .before .before .before .before .before .begun2 .given .1)) ∙ c .before .before .before .before .before .before .before .before .before .before .before .before .before .before .write-directive-header .ensures .0) (c .before .before .before .before .before .before .before .before .before .before .before .before .before .before .write-directive-header .ensures .1) (c .before .before .before .before .before .before .before .put-scope .ensures) (c .before .before .before .data-end .ensures) (c .before .before .add-pdu-crc .ensures)
+returns-2 : tie.Need-returns-2
+returns-2 c = none-written _ _ _ _ _ _ (c .before .before .before .before .before .before .before .before .before .before .before .before .before .before .before .before .towards-sender .ensures) _ (c .before .before .before .before .before .before .before .before .before .before .before .before .before .before .before .before .before .data-length .ensures) _ _ (ap writeAnswer (sym (c .before .before .before .before .before .before .before .before .before .before .begun2 .given .1)) ∙ c .before .before .before .before .before .before .before .before .before .before .before .before .before .before .begin-write .ensures .0) (c .before .before .before .before .before .before .before .before .before .before .before .before .before .before .begin-write .ensures .1) _ _ (c .before .before .before .before .before .before .put-scope .ensures) (c .before .before .seal .ensures)
 
 pub write-no-segment-requests-spec : {M : Type 1} → statement M
-write-no-segment-requests-spec = tie.close (tie.spec judge-own-requires enum-known-judged behind-record-requires enum-known-judged-2 fill-requires write-directive-header-requires enum-known-begun enum-known-begun-2 put-scope-requires data-end-requires add-pdu-crc-requires returns same-length returns-2 same-length-2 returns-3)
+write-no-segment-requests-spec =
+    tie.close
+    (tie.spec
+    data-length-requires
+    towards-sender-requires
+    begin-write-requires
+    enum-known-begun
+    enum-known-begun-2
+    put-scope-requires
+    seal-requires
+    same-length
+    returns
+    same-length-2
+    returns-2)

@@ -1,59 +1,65 @@
--- `header::directive::DirectivePdu::from_bytes` meets its contract: the header's refusal, the verification's, or both parts.
+-- `header::directive::DirectivePdu::from_bytes` meets its contract: the refusal of the PDU, or what its code says.
 -- Assumes nothing.
 use mathlib.Core.Path.{sym, ap, _∙_}
-use lib.Seq.{length-take-le}
-use Rattle.fields.specs.Answer.{accepted}
-use Rattle.header.specs.Answers.{lengthAnswer}
-use Rattle.header.proofs.Directives.{no-header, not-verified, directive-read}
+use Rattle.header.specs.Answers.{directiveAnswer}
+use Rattle.header.proofs.Directives.{no-pdu, code-lies, unknown-read, known-read, own-read}
 use borrow.Author.Needs.{needs}
 use Rattle.header.proofs.directive.DirectivePdu.from_bytes.Statement.{statement}
 use Rattle.header.proofs.directive.DirectivePdu.from_bytes.Tie as tie
 
-length-in-requires : tie.Need-length-in-requires
-length-in-requires c κs = search needs
+up-to-code-requires : tie.Need-up-to-code-requires
+up-to-code-requires c κs = search needs
 
-enum-known-length : tie.Need-enum-known-length
-enum-known-length c = search needs
+enum-known-read : tie.Need-enum-known-read
+enum-known-read c = search needs
 
-enum-known-length-2 : tie.Need-enum-known-length-2
-enum-known-length-2 c = search needs
+enum-known-read-2 : tie.Need-enum-known-read-2
+enum-known-read-2 c = search needs
 
-slice-aggregate-header-in : tie.Need-slice-aggregate-header-in
-slice-aggregate-header-in c = let m = rw (c .before .before .length2 .given .1) at (c .before .before .before .before .length-in .ensures) in sym (length-take-le _ _ (m .0))
+header-len-requires : tie.Need-header-len-requires
+header-len-requires c κs = search needs
 
-header-in-requires : tie.Need-header-in-requires
-header-in-requires c κs = let m = rw (c .before .before .length2 .given .1) at (c .before .before .before .before .length-in .ensures) in m .1
+shared-slice-read-code : tie.Need-shared-slice-read-code
+shared-slice-read-code c = code-lies 0 _ _ (ap directiveAnswer (sym (c .before .before .before .read2 .given .1)) ∙ c .before .before .before .before .before .up-to-code .ensures) _ (c .before .header-len .ensures .0)
 
-verify-directive-requires : tie.Need-verify-directive-requires
-verify-directive-requires c κs = search needs
+from-code-requires : tie.Need-from-code-requires
+from-code-requires c κs = search needs
 
-enum-known-verified : tie.Need-enum-known-verified
-enum-known-verified c = search needs
+enum-told : tie.Need-enum-told
+enum-told c = search needs
 
-enum-known-verified-2 : tie.Need-enum-known-verified-2
-enum-known-verified-2 c = search needs
+enum-told-2 : tie.Need-enum-told-2
+enum-told-2 c = search needs
+
+enum-told-3 : tie.Need-enum-told-3
+enum-told-3 c = search needs
 
 returns : tie.Need-returns
-returns c = no-header _ _ (rw (c .before .length .given .1) at (c .before .before .before .length-in .ensures))
+returns c = no-pdu _ _ _ (ap directiveAnswer (sym (c .before .read .given .1)) ∙ c .before .before .before .up-to-code .ensures)
 
 returns-2 : tie.Need-returns-2
-returns-2 c = let m = rw (c .before .before .before .before .before .before .before .length2 .given .1) at (c .before .before .before .before .before .before .before .before .before .length-in .ensures) in not-verified _ _ (ap accepted (c .before .before .before .before .header-in .ensures) ∙ m .2) _ (ap lengthAnswer (sym (c .before .verified .given .1)) ∙ c .before .before .before .verify-directive .ensures)
+returns-2 c = unknown-read _ _ _ (ap directiveAnswer (sym (c .before .before .before .before .before .before .read2 .given .1)) ∙ c .before .before .before .before .before .before .before .before .up-to-code .ensures) _ (c .before .before .before .before .header-len .ensures .0) (sym (c .enum-told .given .1) ∙ c .before .before .from-code .ensures)
 
 returns-3 : tie.Need-returns-3
-returns-3 c = let m = rw (c .before .before .before .before .before .before .before .length2 .given .1) at (c .before .before .before .before .before .before .before .before .before .length-in .ensures) in directive-read _ _ (ap accepted (c .before .before .before .before .header-in .ensures) ∙ m .2) _ (ap lengthAnswer (sym (c .before .verified2 .given .1)) ∙ c .before .before .before .verify-directive .ensures)
+returns-3 c = known-read _ _ _ (ap directiveAnswer (sym (c .before .before .before .before .before .before .read2 .given .1)) ∙ c .before .before .before .before .before .before .before .before .up-to-code .ensures) _ (c .before .before .before .before .header-len .ensures .0) (sym (c .enum-told2 .given .1) ∙ c .before .before .from-code .ensures)
+
+returns-4 : tie.Need-returns-4
+returns-4 c = own-read _ _ _ (ap directiveAnswer (sym (c .before .before .before .before .before .before .read2 .given .1)) ∙ c .before .before .before .before .before .before .before .before .up-to-code .ensures) _ (c .before .before .before .before .header-len .ensures .0) (sym (c .enum-told3 .given .1) ∙ c .before .before .from-code .ensures)
 
 pub from-bytes-spec : {M : Type 1} → statement M
 from-bytes-spec =
     tie.close
     (tie.spec
-    length-in-requires
-    enum-known-length
-    enum-known-length-2
-    slice-aggregate-header-in
-    header-in-requires
-    verify-directive-requires
-    enum-known-verified
-    enum-known-verified-2
+    up-to-code-requires
+    enum-known-read
+    enum-known-read-2
+    header-len-requires
+    shared-slice-read-code
+    from-code-requires
+    enum-told
+    enum-told-2
+    enum-told-3
     returns
     returns-2
-    returns-3)
+    returns-3
+    returns-4)

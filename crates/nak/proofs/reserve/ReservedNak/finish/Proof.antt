@@ -1,30 +1,20 @@
--- `nak::reserve::ReservedNak::finish` meets its contract: a refusal that changes nothing, or the NAK around the requests.
+-- `nak::reserve::ReservedNak::finish` meets its contract: the NAK around the requests, or no byte changed.
 -- Assumes nothing.
 use mathlib.Core.Path.{sym, ap, _∙_}
-use Rattle.header.specs.Answers.{lengthAnswer}
-use Rattle.nak.proofs.Writing.{scope-goes}
-use Rattle.nak.proofs.Reserving.{finish-fits, finish-scope, not-own, not-header, finished}
+use Rattle.header.specs.Pdu.{writeAnswer}
+use Rattle.nak.proofs.Reserving.{not-finished, finish-goes, finished}
 use borrow.Author.Needs.{needs}
 use Rattle.nak.proofs.reserve.ReservedNak.finish.Statement.{statement}
 use Rattle.nak.proofs.reserve.ReservedNak.finish.Tie as tie
 
-judge-finish-requires : tie.Need-judge-finish-requires
-judge-finish-requires c κs = search needs
+finished-length-requires : tie.Need-finished-length-requires
+finished-length-requires c κs = search needs
 
-enum-known-judged : tie.Need-enum-known-judged
-enum-known-judged c = search needs
+towards-sender-requires : tie.Need-towards-sender-requires
+towards-sender-requires c κs = search needs
 
-behind-record-requires : tie.Need-behind-record-requires
-behind-record-requires c κs = search needs
-
-enum-known-judged-2 : tie.Need-enum-known-judged-2
-enum-known-judged-2 c = search needs
-
-keep-requires : tie.Need-keep-requires
-keep-requires c κs = finish-fits _ _ _ _ _ (ap lengthAnswer (sym (c .before .judged2 .given .1)) ∙ c .before .before .before .judge-finish .ensures)
-
-write-directive-header-requires : tie.Need-write-directive-header-requires
-write-directive-header-requires c κs = search needs
+begin-write-requires : tie.Need-begin-write-requires
+begin-write-requires c κs = search needs
 
 enum-known-begun : tie.Need-enum-known-begun
 enum-known-begun c = search needs
@@ -33,28 +23,35 @@ enum-known-begun-2 : tie.Need-enum-known-begun-2
 enum-known-begun-2 c = search needs
 
 put-scope-requires : tie.Need-put-scope-requires
-put-scope-requires c κs = scope-goes _ _ _ _ _ _ (ap lengthAnswer (sym (c .before .before .begun2 .given .1)) ∙ c .before .before .before .before .before .before .write-directive-header .ensures .0) (c .before .before .before .before .before .before .write-directive-header .ensures .1) _ _ _ (c .before .before .before .before .before .before .before .before .keep .ensures) (finish-scope _ _ _ _ _ (ap lengthAnswer (sym (c .before .before .before .before .before .before .before .before .before .before .judged2 .given .1)) ∙ c .before .before .before .before .before .before .before .before .before .before .before .before .judge-finish .ensures))
+put-scope-requires c κs = finish-goes (c .before .before .before .before .before .before .before .before .before .before .before .before .before .args .self) (c .before .before .before .before .before .before .before .before .before .before .before .before .before .args .start) (c .before .before .before .before .before .before .before .before .before .before .before .before .before .args .end) (c .before .before .before .before .before .before .before .before .before .before .before .before .before .args .buf .now) _ (c .before .before .before .before .before .before .before .before .before .towards-sender .ensures) _ (c .before .before .before .before .before .before .before .before .before .before .finished-length .ensures) _ _ (ap writeAnswer (sym (c .before .before .before .begun2 .given .1)) ∙ c .before .before .before .before .before .before .before .begin-write .ensures .0) (c .before .before .before .before .before .before .before .begin-write .ensures .1)
 
-data-end-requires : tie.Need-data-end-requires
-data-end-requires c κs = search needs
-
-add-pdu-crc-requires : tie.Need-add-pdu-crc-requires
-add-pdu-crc-requires c κs = search needs
-
-returns : tie.Need-returns
-returns c = not-own _ _ _ _ _ _ (ap lengthAnswer (sym (c .before .before .judged .given .1)) ∙ c .before .before .before .before .judge-finish .ensures) (c .behind-record .ensures)
+seal-requires : tie.Need-seal-requires
+seal-requires c κs = search needs
 
 same-length : tie.Need-same-length
 same-length c = search needs
 
-returns-2 : tie.Need-returns-2
-returns-2 c = not-header _ _ _ _ _ (ap lengthAnswer (sym (c .before .before .before .before .before .before .before .before .before .judged2 .given .1)) ∙ c .before .before .before .before .before .before .before .before .before .before .before .judge-finish .ensures) _ (c .before .before .before .before .before .before .before .keep .ensures) _ _ (ap lengthAnswer (sym (c .before .begun .given .1)) ∙ c .before .before .before .before .before .write-directive-header .ensures .0) (c .before .before .before .before .before .write-directive-header .ensures .1)
+returns : tie.Need-returns
+returns c = not-finished _ _ _ _ _ (c .before .before .before .before .before .before .before .towards-sender .ensures) _ (c .before .before .before .before .before .before .before .before .finished-length .ensures) _ _ (ap writeAnswer (sym (c .before .begun .given .1)) ∙ c .before .before .before .before .before .begin-write .ensures .0) (c .before .before .before .before .before .begin-write .ensures .1)
 
 same-length-2 : tie.Need-same-length-2
 same-length-2 c = search needs
 
-returns-3 : tie.Need-returns-3
-returns-3 c = finished _ _ _ _ _ (ap lengthAnswer (sym (c .before .before .before .before .before .before .before .before .before .before .before .before .before .before .before .before .before .before .judged2 .given .1)) ∙ c .before .before .before .before .before .before .before .before .before .before .before .before .before .before .before .before .before .before .before .before .judge-finish .ensures) _ (c .before .before .before .before .before .before .before .before .before .before .before .before .before .before .before .before .keep .ensures) _ _ (ap lengthAnswer (sym (c .before .before .before .before .before .before .before .before .before .before .begun2 .given .1)) ∙ c .before .before .before .before .before .before .before .before .before .before .before .before .before .before .write-directive-header .ensures .0) (c .before .before .before .before .before .before .before .before .before .before .before .before .before .before .write-directive-header .ensures .1) _ _ _ (c .before .before .before .before .before .before .before .put-scope .ensures) (c .before .before .before .data-end .ensures) (c .before .before .add-pdu-crc .ensures)
+returns-2 : tie.Need-returns-2
+returns-2 c = finished _ _ _ _ _ (c .before .before .before .before .before .before .before .before .before .before .before .before .before .before .before .before .towards-sender .ensures) _ (c .before .before .before .before .before .before .before .before .before .before .before .before .before .before .before .before .before .finished-length .ensures) _ _ (ap writeAnswer (sym (c .before .before .before .before .before .before .before .before .before .before .begun2 .given .1)) ∙ c .before .before .before .before .before .before .before .before .before .before .before .before .before .before .begin-write .ensures .0) (c .before .before .before .before .before .before .before .before .before .before .before .before .before .before .begin-write .ensures .1) _ _ (c .before .before .before .before .before .before .put-scope .ensures) (c .before .before .seal .ensures)
 
 pub finish-spec : {M : Type 1} → statement M
-finish-spec = tie.close (tie.spec judge-finish-requires enum-known-judged behind-record-requires enum-known-judged-2 keep-requires write-directive-header-requires enum-known-begun enum-known-begun-2 put-scope-requires data-end-requires add-pdu-crc-requires returns same-length returns-2 same-length-2 returns-3)
+finish-spec =
+    tie.close
+    (tie.spec
+    finished-length-requires
+    towards-sender-requires
+    begin-write-requires
+    enum-known-begun
+    enum-known-begun-2
+    put-scope-requires
+    seal-requires
+    same-length
+    returns
+    same-length-2
+    returns-2)

@@ -1,0 +1,15 @@
+-- Numbers that have 4 bytes, or 8 with the large file flag (document 01: 'Each number has 4 bytes, or 8 with the large file flag'): offsets and file sizes.
+use Prim.Native.Nat.{ℕ}
+use mathlib.Core.Bool.{Bool}
+use Rattle.fields.specs.Width.{fitsWidth}
+use Rattle.header.specs.declared.flags.LargeFileFlag.{LargeFileFlag}
+use Rattle.header.specs.declared.flags.LargeFileFlag.the-variants.{Normal, Large}
+
+-- the bytes of one number
+abbrev pub sizeWidth : LargeFileFlag → ℕ
+sizeWidth Normal = 4
+sizeWidth Large = 8
+
+-- a number has at most so many bytes
+unfoldable pub fitsSize : LargeFileFlag → ℕ → Bool
+fitsSize file v = fitsWidth (sizeWidth file) v

@@ -1,0 +1,34 @@
+// Numbers of 4 bytes, or 8 with the large file flag (the Rust's `read_fss_field`): offsets and file sizes.
+ghost use mathlib.Core.Path.{_≡_};
+ghost use Prim.Native.Nat.{_≤_};
+ghost use Rattle.fields.specs.BigEndian.{beAt};
+ghost use Rattle.header.specs.Size.{sizeWidth, fitsSize};
+use crate::LargeFileFlag;
+use fields::be;
+
+// The bytes of one number.
+pub fn size_width(file: LargeFileFlag) -> usize
+    ensures { λ r. ⌜ (r ≡ sizeWidth file) × (4 ≤ r) × (r ≤ 8) ⌝ }
+{
+    match file {
+        LargeFileFlag::Normal => 4,
+        LargeFileFlag::Large => 8,
+    }
+}
+
+// Whether a number has at most so many bytes.
+pub fn fits_size(file: LargeFileFlag, value: u64) -> bool
+    ensures { λ r. ⌜ r ≡ fitsSize file value ⌝ }
+{
+    be::fits(value, size_width(file))
+}
+
+// The number at a place; where its bytes do not all lie in `s` it reads as 0. Each width is a literal: so no loop is left of a read.
+pub fn read_size(s: &[u8], at: usize, file: LargeFileFlag) -> u64
+    ensures { λ r. ⌜ r ≡ beAt (now (s .entry)) at (sizeWidth file) ⌝ }
+{
+    match file {
+        LargeFileFlag::Normal => be::read_be(s, at, 4),
+        LargeFileFlag::Large => be::read_be(s, at, 8),
+    }
+}
