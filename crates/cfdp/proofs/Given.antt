@@ -20,6 +20,7 @@ use Rattle.header.specs.declared.flags.SegmentationControl.{SegmentationControl
 use Rattle.header.specs.declared.flags.SegmentMetadataFlag.{SegmentMetadataFlag}
 use Rattle.header.specs.Flags.{pduTypeIf, directionIf, modeIf, crcIf, fileIf, controlIf, metadataIf}
 use Rattle.header.specs.Judging.{joining}
+use Rattle.nak.proofs.Comparing.{reading-first}
 use Rattle.nak.specs.Reading.{readingNak}
 use Rattle.nak.specs.Comparing.{comparing}
 use Rattle.cfdp.specs.Given.{isOn, fieldFrom, recordFrom, headerFrom, leftBy, comparingFrom}
@@ -93,12 +94,6 @@ given-left h o memory s t e p = p ∙ ap (λ (x : Answer PduHeader). leftBy x me
 
 -- ---- comparing, which reads first
 
--- what goes on from an answer, after that answer, goes on from it once
-twice : {A B : Type 0} (o : Answer A) (f : A → Answer B) → andThen o (λ _. andThen o f) ≡ andThen o f
-twice (accepted a) f = refl
-twice (short l n) f = refl
-twice (refused ns) f = refl
-
 pub none-compared : (r q : Refusal) (o : Answer PduHeader) (f : PduHeader → Answer Bool) (s out : List ℕ) → told (paper q) ≡ o
     → _≡_ {A = Answer Bool} (told (paper r)) (andThen (run readingNak s) (λ _. told (paper q))) → out ≡ refusalShown r → out ≡ shown verdictNumber (comparingFrom o f s)
 none-compared r q o f s out e first p =
@@ -109,7 +104,6 @@ none-compared r q o f s out e first p =
 pub given-compared : (file : PduHeader → LargeFileFlag) (h : PduHeader) (start end : ℕ) (numbers s : List ℕ) (o : Answer PduHeader) (out : List ℕ) → accepted h ≡ o
     → out ≡ shown verdictNumber (comparing (file h) h start end numbers s)
     → out ≡ shown verdictNumber (comparingFrom o (λ k. comparing (file k) k start end numbers s) s)
-unfolding comparing
 given-compared file h start end numbers s o out e p =
-    p ∙ ap (shown verdictNumber) (sym (twice (run readingNak s) _))
+    p ∙ ap (shown verdictNumber) (sym (reading-first (file h) h start end numbers s))
     ∙ ap (λ (x : Answer PduHeader). shown verdictNumber (comparingFrom x (λ k. comparing (file k) k start end numbers s) s)) e

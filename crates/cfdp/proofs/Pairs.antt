@@ -21,7 +21,7 @@ use Rattle.nak.specs.Nak.{pairSize}
 use Rattle.nak.specs.Requests.{pairsFrom, pairsOf, nextRequest}
 use Rattle.nak.specs.Cases.{flat}
 use Rattle.fields.proofs.Parts.{number-part}
-use Rattle.nak.proofs.Walking.{pairs-count}
+use Rattle.nak.proofs.Walking.{pairs-count, pairs-are, shows-pair}
 use Rattle.cfdp.specs.declared.read.Found.{Found}
 use Rattle.cfdp.specs.Pairs.{pairsIn, isPair, pairAt}
 
@@ -66,20 +66,18 @@ module _ (large : Bool) (a : List ℕ) (i : ℕ) where
     part = take (i * size + size - i * size) (drop (i * size) a)
 
     at-pair : getD (pairsIn large a) i (0, 0) ≡ pairOf width a (i * size)
-    unfolding pairsOf
     at-pair =
         let e : 0 + i * pairSize (fileIf large) ≡ i * size = omega (arith, ap (λ (k : ℕ). i * k) es) in
-        pairs-at width a 0 (length a / pairSize (fileIf large)) i below ∙ ap (pairOf width a) e
+        ap (λ (ps : List (ℕ × ℕ)). getD ps i (0, 0)) (pairs-are (fileIf large) a) ∙ pairs-at width a 0 (length a / pairSize (fileIf large)) i below ∙ ap (pairOf width a) e
 
     -- in these bytes the cursor shows it
     shows : (file : LargeFileFlag) → file ≡ fileIf large → nextRequest part file 0 ≡ Pair (numberAt a (i * size) width) (numberAt a (i * size + width) width) (record { at = 0 + pairSize (fileIf large) })
-    unfolding nextRequest
     shows file e =
         let k : i * size + size - i * size ≡ size = omega arith in
         let l : 0 + pairSize (fileIf large) ≤ length part = omega (arith, es, whole-pair (length a) size i h, length-take (i * size + size - i * size) (drop (i * size) a), length-drop (i * size) a) in
         let p : numberAt part 0 width ≡ numberAt a (i * size) width = number-part a (i * size) (i * size + size - i * size) 0 width (omega (arith, es)) ∙ ap (λ (m : ℕ). numberAt a m width) (add-zero (i * size)) in
         let q : numberAt part (0 + width) width ≡ numberAt a (i * size + width) width = number-part a (i * size) (i * size + size - i * size) (0 + width) width (omega (arith, es)) ∙ ap (λ (m : ℕ). numberAt a (i * size + m) width) (zero-add width) in
-        rw (e, le-leb _ _ l, p, q)
+        ap (λ (f : LargeFileFlag). nextRequest part f 0) e ∙ shows-pair part (fileIf large) 0 l ∙ rw (p, q)
 
     pub found-pair : (file : LargeFileFlag) (x y : ℕ) (next : RequestCursor) → file ≡ fileIf large → Pair x y next ≡ nextRequest part file 0 → (true ≡ isPair large a i) × (x ∷ y ∷ [] ≡ pairAt large a i)
     found-pair file x y next e q =

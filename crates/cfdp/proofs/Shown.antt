@@ -14,6 +14,7 @@ use Rattle.fields.specs.declared.refusal.RefusalNumbers.{RefusalNumbers}
 use Rattle.fields.specs.Refusal.{paper, numbersOf}
 use Rattle.fields.specs.Answer.{Answer, accepted, short, refused, told}
 use Rattle.fields.proofs.OneToOne.{numbers-paper}
+use Rattle.fields.proofs.Judging.{told-cases}
 use Rattle.header.specs.declared.PduHeader.{PduHeader}
 use Rattle.header.specs.Flags.{pduTypeBit, directionBit, modeBit, crcBit, fileBit, controlBit, metadataBit}
 use Rattle.header.specs.Header.{headerLength, pduLength}
@@ -46,12 +47,9 @@ refusal-numbers r n e =
 
 module _ {A : Type 0} (numbers : A → List ℕ) where
   told-shown : (ns : List ℕ) → length ns ≤ 3 → padded answerSize ns ≡ shown numbers (told ns)
-  unfolding shown told
-  told-shown ns l = go (eqb (getD ns 0 0) 1) refl
-    where
-      go : (c : Bool) → eqb (getD ns 0 0) 1 ≡ c → padded answerSize ns ≡ padded answerSize (answerNumbers numbers (if c then short (getD ns 1 0) (getD ns 2 0) else refused ns))
-      go true e = few ns l ∙ ap (λ (k : ℕ). padded answerSize (k ∷ getD ns 1 0 ∷ getD ns 2 0 ∷ [])) (eqb-true _ _ e)
-      go false e = refl
+  unfolding shown
+  told-shown ns l =
+      sym (told-cases (shown numbers) (padded answerSize ns) ns (λ one. sym (few ns l ∙ ap (λ (k : ℕ). padded answerSize (k ∷ getD ns 1 0 ∷ getD ns 2 0 ∷ [])) one)) refl)
 
   -- a refusal is shown by its number and values
   pub refused-shown : (r : Refusal) (o : Answer A) (out : List ℕ) → told (paper r) ≡ o → out ≡ refusalShown r → out ≡ shown numbers o

@@ -3,7 +3,7 @@
 use Prim.Native.Nat.{ℕ, _+_, _-_, _/_, _%_, _^_, _≤_, _<_}
 use mathlib.Core.Path.{_≡_, sym, ap, ap₂, _∙_}
 use mathlib.Core.Bool.{Bool, true}
-use mathlib.Core.List.{List, _++_, append-assoc}
+use mathlib.Core.List.{List, [], _++_, append-assoc}
 use native.Mathlib.Omega.{arith}
 use lib.Dec.{eqb, lit<}
 use lib.ListN.{length, getD, take, length-append}
@@ -12,7 +12,7 @@ use Rattle.fields.specs.Width.{isWidth}
 use Rattle.fields.specs.BigEndian.{beBytes, numberAt}
 use Rattle.fields.specs.Answer.{accepted}
 use Rattle.fields.specs.Staged.{run}
-use Rattle.fields.proofs.BigEndian.{be-length, then-length, number-back, number-take}
+use Rattle.fields.proofs.BigEndian.{be-length, then-length, number-back, number-take, byte-back}
 use Rattle.fields.proofs.Judging.{Passed}
 use Rattle.header.specs.declared.PduHeader.{PduHeader}
 use Rattle.header.specs.Flags.{pduTypeIf, directionIf, modeIf, crcIf, fileIf, controlIf, metadataIf}
@@ -33,16 +33,24 @@ module _ (h : PduHeader) (k : Sound h) (small : h .length < 2 ^ 16) where
   -- ---- bytes 0 and 3, of the header's bytes with anything behind them
 
   first-at : (r : List ℕ) → getD (headerBytes h ++ r) 0 0 ≡ firstByte h
-  unfolding headerBytes beBytes firstByte
+  unfolding headerBytes firstByte
   first-at r =
-      omega
-      (arith, bits.first-lt _ _ _ _ _ (bits.pduType-bit (h .kind)) (bits.direction-bit (h .direction)) (bits.mode-bit (h .mode)) (bits.crc-bit (h .crc)) (bits.file-bit (h .file)))
+      let tail = beBytes 2 (h .length) ++ (beBytes 1 (fourthByte h) ++ (beBytes e (h .source .0) ++ (beBytes q (h .sequence .0 .value) ++ (beBytes e (h .destination .0) ++ r)))) in
+      let s : headerBytes h ++ r ≡ beBytes 1 (firstByte h) ++ tail = simp append-assoc in
+      ap (λ (x : List ℕ). getD x 0 0) s
+      ∙ byte-back [] tail 0 (firstByte h) (λ _. 0)
+      (bits.first-lt _ _ _ _ _ (bits.pduType-bit (h .kind)) (bits.direction-bit (h .direction)) (bits.mode-bit (h .mode)) (bits.crc-bit (h .crc)) (bits.file-bit (h .file)))
 
   fourth-at : (r : List ℕ) → getD (headerBytes h ++ r) 3 0 ≡ fourthByte h
-  unfolding headerBytes beBytes fourthByte
+  unfolding headerBytes fourthByte
   fourth-at r =
-      omega
-      (arith, bits.fourth-lt _ (e - 1) _ (q - 1) (bits.control-bit (h .control)) (omega arith) (bits.metadata-bit (h .metadata)) (omega arith))
+      let tail = beBytes e (h .source .0) ++ (beBytes q (h .sequence .0 .value) ++ (beBytes e (h .destination .0) ++ r)) in
+      let pre = beBytes 1 (firstByte h) ++ beBytes 2 (h .length) in
+      let s : headerBytes h ++ r ≡ pre ++ (beBytes 1 (fourthByte h) ++ tail) = simp append-assoc in
+      let l : length pre ≡ 3 = simp (length-append, be-length) in
+      ap (λ (x : List ℕ). getD x 3 0) s
+      ∙ byte-back pre tail 3 (fourthByte h) l
+      (bits.fourth-lt _ (e - 1) _ (q - 1) (bits.control-bit (h .control)) (omega arith) (bits.metadata-bit (h .metadata)) (omega arith))
 
   version-is : firstByte h / 32 % 8 ≡ 1
   unfolding firstByte

@@ -10,7 +10,7 @@ use lib.ListN.{length, getD, drop, length-append, length-drop, drop-of-length-le
 use lib.Seq.{drop-at, drop-cons, drop-drop}
 use borrow.Author.Tests.{lt-leb, le-leb, leb-true, eqb-true, eqb-false, eq-eqb, ne-eqb}
 use Rattle.fields.specs.BigEndian.{numberAt, beAt, beBytes}
-use Rattle.fields.specs.Answer.{Answer, accepted, told, andThen, Test, firstOf}
+use Rattle.fields.specs.Answer.{Answer, accepted, short, refused, told, andThen, Test, firstOf}
 use Rattle.fields.specs.Staged.{run}
 use Rattle.fields.proofs.BigEndian.{at-number, number-drop, number-back, be-length}
 use Rattle.fields.proofs.Judging.{Passed, passed, passed-first, passed-last, all-passed, refused-after, passed-after, refused-then, same-accepted, Went, went}
@@ -91,6 +91,11 @@ numbers-end w area ns at i h e = rw (drop-of-length-le ns e, length-drop) (go (e
 
 -- ---- the whole
 
+twice : {A B : Type 0} (o : Answer A) (f : A → Answer B) → andThen o (λ _. andThen o f) ≡ andThen o f
+twice (accepted a) f = refl
+twice (short l n) f = refl
+twice (refused ns) f = refl
+
 module _ (file : LargeFileFlag) (h : PduHeader) (start end count : ℕ) where
   -- the record's tests, and behind them the NAK's own
   pub refused-record : (ns : List ℕ) → told ns ≡ judgingDirective h → told ns ≡ judgingNak file h start end count
@@ -131,6 +136,11 @@ module _ (file : LargeFileFlag) (h : PduHeader) (start end count : ℕ) (n : Nak
 module _ (file : LargeFileFlag) (h : PduHeader) (start end : ℕ) (numbers s : List ℕ) where
   abbrev decide : Nak → Answer Bool
   decide n = comparingRead file h start end (length numbers) n (holdsNumbers (sizeWidth file) (areaOf n s) numbers)
+
+  -- the reader's refusals come first, however often they are asked
+  pub reading-first : andThen (run readingNak s) (λ _. comparing file h start end numbers s) ≡ comparing file h start end numbers s
+  unfolding comparing comparingRead
+  reading-first = twice (run readingNak s) decide
 
   pub refused-reading : (ns : List ℕ) → told ns ≡ run readingNak s → told ns ≡ comparing file h start end numbers s
   unfolding comparing comparingRead

@@ -48,7 +48,16 @@ module _ (n : Nak) (s : List ℕ) where
   unfolding requestsOf
   some-requests a e z = rw (← e, ne-eqb _ _ z)
 
--- ---- one step
+-- ---- the pairs of an area, and one step
+
+pub pairs-are : (file : LargeFileFlag) (a : List ℕ) → pairsOf file a ≡ pairsFrom (sizeWidth file) a 0 (length a / pairSize file)
+unfolding pairsOf
+pairs-are file a = refl
+
+pub shows-pair : (a : List ℕ) (file : LargeFileFlag) (at : ℕ) → at + pairSize file ≤ length a
+    → nextRequest a file at ≡ Pair (numberAt a at (sizeWidth file)) (numberAt a (at + sizeWidth file) (sizeWidth file)) (record { at = at + pairSize file })
+unfolding nextRequest
+shows-pair a file at l = rw (le-leb _ _ l)
 
 pub next-pair : (a : List ℕ) (file : LargeFileFlag) (at w x y : ℕ) → w ≡ sizeWidth file → at + 2 * w ≤ length a → x ≡ beAt a at (sizeWidth file) → y ≡ beAt a (at + w) (sizeWidth file)
     → Pair x y (record { at = at + 2 * w }) ≡ nextRequest a file at
