@@ -15,7 +15,7 @@ fn wide(x: u8) -> u64
 }
 
 // Whether the `width` bytes from `at` all lie in a slice of `len` bytes, and are no more than 8.
-fn lies_in(len: usize, at: usize, width: usize) -> bool
+pub fn lies_in(len: usize, at: usize, width: usize) -> bool
     ensures { λ r. ⌜ r ≡ liesIn len at width ⌝ }
 {
     if MAX_WIDTH < width {

@@ -1,12 +1,15 @@
 -- File-size sensitive numbers: their width by the flag, and those that fit.
 -- Assumes nothing.
-use Prim.Native.Nat.{ℕ, _≤_, _^_, _<_}
+use Prim.Native.Nat.{ℕ, _+_, _-_, _≤_, _^_, _<_}
 use mathlib.Core.Path.{_≡_, refl, sym, ap, _∙_}
-use mathlib.Core.Bool.{Bool, true}
+use mathlib.Core.Bool.{Bool, true, false}
 use mathlib.Core.List.{List}
 use native.Mathlib.Omega.{arith}
+use lib.ListN.{length, take, drop}
 use Rattle.fields.specs.Width.{fitsWidth}
-use Rattle.fields.specs.BigEndian.{beAt}
+use Rattle.fields.specs.BigEndian.{liesIn, beAt}
+use Rattle.fields.proofs.BigEndian.{lies, read-none, at-number}
+use Rattle.fields.proofs.Parts.{part-read}
 use Rattle.fields.proofs.Width.{fits-lt, lt-fits}
 use Rattle.header.specs.declared.flags.LargeFileFlag.{LargeFileFlag}
 use Rattle.header.specs.declared.flags.LargeFileFlag.the-variants.{Normal, Large}
@@ -16,8 +19,17 @@ pub fits-is : (file : LargeFileFlag) (w v : ℕ) (r : Bool) → w ≡ sizeWidth 
 unfolding fitsSize
 fits-is file w v r p e = e ∙ ap (λ (n : ℕ). fitsWidth n v) p
 
-pub read-is : (file f : LargeFileFlag) (s : List ℕ) (at w r : ℕ) → file ≡ f → w ≡ sizeWidth f → r ≡ beAt s at w → r ≡ beAt s at (sizeWidth file)
-read-is file f s at w r p q e = e ∙ ap (beAt s at) (q ∙ sym (ap sizeWidth p))
+-- a number at a place: none where it does not lie in the bytes, else that of a part of just its bytes
+module _ (file f : LargeFileFlag) (pf : file ≡ f) (s : List ℕ) (at w : ℕ) (pw : w ≡ sizeWidth f) (small : w ≤ 8) where
+  pub size-nowhere : liesIn (length s) at w ≡ false → 0 ≡ beAt s at (sizeWidth file)
+  size-nowhere e = read-none s at w e ∙ ap (beAt s at) (pw ∙ sym (ap sizeWidth pf))
+
+  pub size-inside : liesIn (length s) at w ≡ true → at + w ≤ length s
+  size-inside e = lies (length s) at w e .within
+
+  pub size-read : (r : ℕ) → liesIn (length s) at w ≡ true → r ≡ beAt (take (at + w - at) (drop at s)) 0 w → r ≡ beAt s at (sizeWidth file)
+  size-read r e q =
+      q ∙ part-read s at w (at + w) refl small (size-inside e) ∙ sym (at-number s at w small (size-inside e)) ∙ ap (beAt s at) (pw ∙ sym (ap sizeWidth pf))
 
 -- four or eight
 pub size-low : (file : LargeFileFlag) → 4 ≤ sizeWidth file

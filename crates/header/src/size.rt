@@ -23,12 +23,23 @@ pub fn fits_size(file: LargeFileFlag, value: u64) -> bool
     be::fits(value, size_width(file))
 }
 
-// The number at a place; where its bytes do not all lie in `s` it reads as 0. Each width is a literal: so no loop is left of a read.
+// The number at a place; where its bytes do not all lie in `s` it reads as 0. It is read from a part of just its bytes, with its width as a
+// literal: so no loop is left of the read.
 pub fn read_size(s: &[u8], at: usize, file: LargeFileFlag) -> u64
     ensures { λ r. ⌜ r ≡ beAt (now (s .entry)) at (sizeWidth file) ⌝ }
 {
     match file {
-        LargeFileFlag::Normal => be::read_be(s, at, 4),
-        LargeFileFlag::Large => be::read_be(s, at, 8),
+        LargeFileFlag::Normal => {
+            if !be::lies_in(s.len(), at, 4) {
+                return 0;
+            }
+            be::read_be(&s[at..at + 4], 0, 4)
+        }
+        LargeFileFlag::Large => {
+            if !be::lies_in(s.len(), at, 8) {
+                return 0;
+            }
+            be::read_be(&s[at..at + 8], 0, 8)
+        }
     }
 }
