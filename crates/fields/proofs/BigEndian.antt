@@ -305,6 +305,15 @@ pub number-take : (s : List ℕ) (n at w : ℕ) → at + w ≤ n → numberAt (t
 unfolding numberAt
 number-take s n at w h = ap beValue (part-take s n at w h)
 
+-- and whatever follows, one within the bytes stays
+pub number-append : (s t : List ℕ) (at w : ℕ) → at + w ≤ length s → numberAt (s ++ t) at w ≡ numberAt s at w
+number-append s t at w h = sym (number-take (s ++ t) (length s) at w h) ∙ ap (λ (x : List ℕ). numberAt x at w) (take-at s t (length s) refl)
+
+-- a number behind a place is one of what stands there
+pub number-behind : (s : List ℕ) (from at w : ℕ) → numberAt (drop from s) at w ≡ numberAt s (from + at) w
+unfolding numberAt
+number-behind s from at w = ap (λ (x : List ℕ). beValue (take w x)) (drop-drop at from s)
+
 -- a number at a place is the first of what stands there
 pub number-drop : (s : List ℕ) (at w : ℕ) → numberAt (drop at s) 0 w ≡ numberAt s at w
 unfolding numberAt
@@ -319,6 +328,15 @@ put-sets s at w v h k f =
     let l : at + length (beBytes w v) ≤ length s = omega (arith, be-length w v) in
     sym (put-some s at w v (lies-in (length s) at w h k) (lt-fits w v f))
     ∙ sym (sets-eq (beBytes w v) s at l ∙ rw (be-length w v) (append-assoc (take at s) (beBytes w v) (drop (at + w) s)))
+
+-- so is a number of no bytes, whatever it is: none
+pub put-empty : (s : List ℕ) (at v : ℕ) → bePut s at 0 v ≡ sets s at (beBytes 0 v)
+unfolding bePut overwritten beBytes
+put-empty s at v = go (liesIn (length s) at 0 && fitsWidth 0 v)
+  where
+    go : (c : Bool) → (if c then take at s ++ ([] ++ drop (at + 0) s) else s) ≡ s
+    go true = rw add-zero (take-append-drop at s)
+    go false = refl
 
 -- two runs are one
 pub sets-append : (xs ys l : List ℕ) (at : ℕ) → sets l at (xs ++ ys) ≡ sets (sets l at xs) (at + length xs) ys

@@ -8,7 +8,7 @@ use Rattle.fields.specs.declared.refusal.Refusal.{Refusal}
 use Rattle.fields.specs.declared.refusal.Refusal.the-variants.{FromSliceTooSmall}
 use Rattle.fields.specs.Refusal.{paper}
 use Rattle.fields.specs.Answer.{Answer, short, told}
-use Rattle.fields.specs.Demand3.{Final, Demand3, Readings, CodeDemand3}
+use Rattle.fields.specs.Demand3.{Final, Demand3, CodeDemand3}
 use Rattle.fields.proofs.Judging.{told-is-short}
 
 module _ {A R : Type 0} (read : List ℕ → Answer A) (answer : R → Answer A) (no : Refusal → R) where

@@ -7,16 +7,15 @@ use native.Mathlib.Nat.{add-zero}
 use native.Mathlib.Omega.{arith}
 use lib.ListN.{length, take, drop, length-take, length-drop, drop-of-length-le}
 use lib.Seq.{drop-drop, sets-eq}
-use Rattle.fields.specs.BigEndian.{beValue, beBytes, numberAt, beAt, bePut}
-use Rattle.fields.proofs.BigEndian.{be-length, at-number, number-take, put-sets}
+use Rattle.fields.specs.BigEndian.{beBytes, numberAt, beAt, bePut}
+use Rattle.fields.proofs.BigEndian.{be-length, at-number, number-take, number-behind, put-sets}
 
 part-length : (s : List ℕ) (at w : ℕ) → at + w ≤ length s → length (take w (drop at s)) ≡ w
 part-length s at w k = omega (arith, length-take w (drop at s), length-drop at s)
 
 -- a number of a part is the same in the whole
 pub number-part : (s : List ℕ) (from k at w : ℕ) → at + w ≤ k → numberAt (take k (drop from s)) at w ≡ numberAt s (from + at) w
-unfolding numberAt
-number-part s from k at w h = number-take (drop from s) k at w h ∙ ap (λ (x : List ℕ). beValue (take w x)) (drop-drop at from s)
+number-part s from k at w h = number-take (drop from s) k at w h ∙ number-behind s from at w
 
 pub part-read : (s : List ℕ) (at w e : ℕ) → e ≡ at + w → w ≤ 8 → at + w ≤ length s → beAt (take (e - at) (drop at s)) 0 w ≡ numberAt s at w
 part-read s at w e p h k =
