@@ -1,4 +1,4 @@
-/* The CFDP header and NAK codec (CCSDS 727.0-B-5) for C and C++: the functions of libcfdp.a, which link/archive.sh proves
+/* The CFDP codec for headers, NAKs, EOFs and ACKs (CCSDS 727.0-B-5) for C and C++: the functions of libcfdp.a, which link/archive.sh proves
    and makes for this machine.
 
    Every function gives one proved answer to every value of its parameters. Nothing allocates or panics, and nothing is read
@@ -12,7 +12,7 @@
    each with memory of its own to write.
 
    A header goes in as numbers: shape, seven flags and three widths in bytes, and ids, three values, at the places that
-   CFDP_SHAPE_.. and CFDP_ID_.. name; where it is asked for, the data field's length, which for a NAK is worked out. A flag is
+   CFDP_SHAPE_.. and CFDP_ID_.. name; where it is asked for, the data field's length, which is worked out for a PDU that is written. A flag is
    clear where it is 0, and else set. A width may be any value: what is not 1, 2, 4 or 8 is refused.
 
    The source is the entity that sends the file, and the destination the one that receives it, in every PDU of a transaction.
@@ -41,13 +41,13 @@
      cfdp_header_read(bytes, length, answer);
      P = answer[CFDP_ANSWER_HEADER_LENGTH] + answer[CFDP_ANSWER_DATA_LENGTH];
 
-   The data of a PDU stops at P or, with the CRC flag, two bytes before it, where the checksum stands: CFDP_ANSWER_NAK_STOP is
-   that place, and not P.
+   The data of a PDU stops at P or, with the CRC flag, two bytes before it, where the checksum stands: CFDP_ANSWER_NAK_STOP,
+   CFDP_ANSWER_EOF_STOP and CFDP_ANSWER_ACK_STOP are that place, and not P.
 
    A stream of PDUs is framed by P alone. Read the header, with more bytes for as long as it is refused with 1; wait until P
    bytes are there; read these P bytes as a PDU; go on at P, whether they were accepted or refused. A header that is refused
-   with 2, 3 or 4 has no P, and where the next PDU starts cannot be known. Do not wait for what the reader of a NAK asks for
-   once it has P bytes: of a PDU of 7 or 8 bytes, which is too short for a NAK, it asks for a ninth (refusal 1), and that
+   with 2, 3 or 4 has no P, and where the next PDU starts cannot be known. Do not wait for what the reader of a directive asks
+   for once it has P bytes: of a PDU of 7 or 8 bytes, which is too short for one, it asks for a ninth (refusal 1), and that
    byte belongs to the next PDU. */
 #ifndef CFDP_H
 #define CFDP_H
@@ -93,7 +93,11 @@ enum {
     CFDP_REFUSED_WIDTHS_DIFFER = 13,    /* the width of the source, that of the destination */
     CFDP_REFUSED_VALUE = 14,            /* the value, the width that it does not fit */
     CFDP_REFUSED_PACKET_SMALL = 15,     /* nothing; a NAK with no pair does not fit the packet */
-    CFDP_REFUSED_NOT_A_DIRECTIVE = 21   /* nothing; the PDU type is 1, file data */
+    CFDP_REFUSED_CONDITION = 16,        /* nothing; the condition code is 12, 13 or above 15 */
+    CFDP_REFUSED_ACKNOWLEDGED = 17,     /* nothing; the acknowledged directive is neither EOF (4) nor Finished (5) */
+    CFDP_REFUSED_NOT_A_DIRECTIVE = 21,  /* nothing; the PDU type is 1, file data */
+    CFDP_REFUSED_FAULT_LOCATION = 28,   /* nothing; what follows an EOF's file size is not one entity identifier field */
+    CFDP_REFUSED_FILE_SIZE = 29         /* nothing; the file size is above 4294967295 without the large file flag */
 };
 
 /* The places of an answer. */
@@ -129,6 +133,19 @@ enum {
     CFDP_ANSWER_NAK_AREA = 17,
     CFDP_ANSWER_NAK_STOP = 18,
     CFDP_ANSWER_NAK_PAIRS = 19,
+    /* behind the HEADER of cfdp_eof_read; the fault location is 1 where there is one, and else this and the next two are 0 */
+    CFDP_ANSWER_EOF_CONDITION = 15,
+    CFDP_ANSWER_EOF_FILE_CHECKSUM = 16,
+    CFDP_ANSWER_EOF_FILE_SIZE = 17,
+    CFDP_ANSWER_EOF_FAULT = 18,
+    CFDP_ANSWER_EOF_FAULT_WIDTH = 19,
+    CFDP_ANSWER_EOF_FAULT_VALUE = 20,
+    CFDP_ANSWER_EOF_STOP = 21,
+    /* behind the HEADER of cfdp_ack_read */
+    CFDP_ANSWER_ACK_DIRECTIVE = 15,
+    CFDP_ANSWER_ACK_CONDITION = 16,
+    CFDP_ANSWER_ACK_STATUS = 17,
+    CFDP_ANSWER_ACK_STOP = 18,
     /* behind the HEADER of cfdp_nak_reserve; the length is the P that the NAK will have */
     CFDP_ANSWER_RESERVED_PAIRS = 15,
     CFDP_ANSWER_RESERVED_AREA = 16,
@@ -248,6 +265,30 @@ void cfdp_nak_compare_normal(const uint8_t *bytes, size_t bytes_len, const uint8
 void cfdp_nak_compare_large(const uint8_t *bytes, size_t bytes_len, const uint8_t shape[CFDP_SHAPE_LEN],
                             const uint64_t ids[CFDP_IDS_LEN], uint64_t start, uint64_t end, const uint64_t *numbers,
                             size_t count, uint64_t answer[CFDP_ANSWER_LEN]);
+
+/* ---- EOF */
+
+/* Reads an EOF at the front of the bytes, whatever follows it: HEADER, condition code, file checksum, file size, whether there
+   is a fault location, its width and its value, where the data stops; or 1 to 8, 21, 16, 28. */
+void cfdp_eof_read(const uint8_t *bytes, size_t bytes_len, uint64_t answer[CFDP_ANSWER_LEN]);
+
+/* Writes an EOF, the large file flag as given; direction and length are worked out, and handed back in the header. With
+   fault false there is no fault location, and its width and value are not looked at: HEADER, the written length; or 13, 3, 4,
+   14, 21, 16, 29, 3 and 14 for the fault location, 11. */
+void cfdp_eof_write(const uint8_t shape[CFDP_SHAPE_LEN], const uint64_t ids[CFDP_IDS_LEN], uint8_t condition,
+                    uint32_t file_checksum, uint64_t file_size, bool fault, uint8_t fault_width, uint64_t fault_value,
+                    uint8_t *buf, size_t buf_len, uint64_t answer[CFDP_ANSWER_LEN]);
+
+/* ---- ACK */
+
+/* Reads an ACK at the front of the bytes, whatever follows it: HEADER, the acknowledged directive's code, condition code,
+   transaction status, where the data stops; or 1 to 8, 21, 16, 17. */
+void cfdp_ack_read(const uint8_t *bytes, size_t bytes_len, uint64_t answer[CFDP_ANSWER_LEN]);
+
+/* Writes the ACK of an EOF (directive 4), towards the file's sender, or of a Finished (5), towards its receiver. A status that
+   is none of 0, 1 and 2 is written as 3, unrecognized: HEADER, the written length; or 13, 3, 4, 14, 21, 16, 17, 11. */
+void cfdp_ack_write(const uint8_t shape[CFDP_SHAPE_LEN], const uint64_t ids[CFDP_IDS_LEN], uint8_t directive,
+                    uint8_t condition, uint8_t status, uint8_t *buf, size_t buf_len, uint64_t answer[CFDP_ANSWER_LEN]);
 
 #ifdef __cplusplus
 }

@@ -1,4 +1,6 @@
 //! Times port and Rust on the same inputs, by turns, and prints the medians as a table in Markdown.
+mod directive;
+mod header;
 mod nak;
 mod timing;
 
@@ -20,6 +22,11 @@ fn main() {
             sample.read(&format!("read and walk {about}"));
             sample.write(&format!("write {about}"));
         }
+    }
+    for (crc, about) in [(false, ""), (true, ", CRC")] {
+        directive::eof(crc, false, about);
+        directive::eof(crc, true, &format!(" with a fault location{about}"));
+        directive::ack(crc, about);
     }
     // 16 bytes and 8 for each pair: NAKs of 24 and of 1,000 bytes.
     for pairs in [1, 123] {

@@ -1,10 +1,9 @@
 //! A NAK read and written by both sides, into lent memory of the same size.
+use crate::header::{accepted, port_header, rust_header};
 use crate::timing::row;
-use port::ffi::{self, ANSWER_LEN, Answer, Header};
+use port::ffi::{self, ANSWER_LEN, Header};
+use spacepackets::cfdp::pdu::PduHeader;
 use spacepackets::cfdp::pdu::nak::{NakPduCreator, NakPduReader, SegmentRequests};
-use spacepackets::cfdp::pdu::{CommonPduConfig, PduHeader};
-use spacepackets::cfdp::{CrcFlag, Direction, LargeFileFlag, TransmissionMode};
-use spacepackets::util::UnsignedByteField;
 use std::hint::black_box;
 
 const SCOPE: (u64, u64) = (0, 9_000_000);
@@ -24,10 +23,7 @@ impl Sample {
         let pairs: Vec<(u32, u32)> = (0..count).map(|k| (1000 * k, 1000 * k + 500)).collect();
         let mut sample = Sample {
             rust: rust_header(crc),
-            port: Header {
-                shape: [0, 1, 0, u8::from(crc), 0, 0, 0, 1, 1, 1],
-                ids: [1, 2, 3],
-            },
+            port: port_header(crc),
             numbers: pairs
                 .iter()
                 .flat_map(|(start, end)| [*start, *end])
@@ -114,26 +110,4 @@ fn is_read(bytes: &[u8]) -> bool {
     let mut answer = [0; ANSWER_LEN];
     ffi::nak_read(bytes, &mut answer);
     answer[0] == 0
-}
-
-fn accepted(answer: &Answer) {
-    assert_eq!(answer[0], 0, "refused {answer:?}");
-}
-
-fn rust_header(crc: bool) -> PduHeader {
-    let id = |value| UnsignedByteField::new(1, value);
-    let config = CommonPduConfig::new(
-        id(1),
-        id(3),
-        id(2),
-        TransmissionMode::Acknowledged,
-        LargeFileFlag::Normal,
-        if crc {
-            CrcFlag::WithCrc
-        } else {
-            CrcFlag::NoCrc
-        },
-        Direction::TowardsSender,
-    );
-    PduHeader::new_for_file_directive(config.expect("the widths are equal"), 0)
 }

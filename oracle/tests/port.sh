@@ -15,12 +15,21 @@ compared() {
     expect "$1" "$work/expected" "$work/seen"
 }
 
-# wrong NAME SED-SCRIPT: the cases with one answer of the port's changed
-wrong() {
-    printf '#!/bin/sh\n"%s/port" | sed "%s"\n' "$bin" "$2" > "$work/wrong"
+# changed NAME LIST SED-SCRIPT COUNTS: the list with one answer of the port's changed
+changed() {
+    printf '#!/bin/sh\n"%s/port" | sed "%s"\n' "$bin" "$3" > "$work/wrong"
     chmod +x "$work/wrong"
-    compared "$1" "$work/cases" "$work/wrong" \
-        '53 commands: 45 compared, 8 outside the domain, 1 differing\n1\n'
+    compared "$1" "$2" "$work/wrong" "$4, 1 differing\\n1\\n"
+}
+
+# wrong NAME SED-SCRIPT: document 01's cases, changed
+wrong() {
+    changed "$1" "$work/cases" "$2" '53 commands: 45 compared, 8 outside the domain'
+}
+
+# wrong_later NAME SED-SCRIPT: an EOF and an ACK, each read and written, changed
+wrong_later() {
+    changed "$1" "$work/later" "$2" '5 commands: 4 compared, 1 outside the domain'
 }
 
 # Document 01's cases, without the three lines at the end, of which the last is no command.
@@ -32,7 +41,7 @@ expect "own.txt" "$here/own.expected" "$work/seen"
 compared "document 01's cases" "$work/cases" "$bin/port" \
     '53 commands: 45 compared, 8 outside the domain, 0 differing\n0\n'
 compared "silent.txt" "$here/silent.txt" "$bin/port" \
-    '34 commands: 4 compared, 15 outside the domain, 15 that the port lacks, 0 differing\n0\n'
+    '53 commands: 6 compared, 41 outside the domain, 6 that the port lacks, 0 differing\n0\n'
 compared "a line that is no command" "$here/smoke.txt" "$bin/port" \
     '55 commands: 46 compared, 9 outside the domain, 1 differing\n1\n'
 
@@ -46,6 +55,39 @@ wrong "a buffer not shown" '49s/ buf.*//'
 wrong "a panic for an answer" '49s/ok 7/panic/'
 wrong "no last answer" '\$d'
 
+# Inside the domain, and last an ACK whose direction the Rust's reader works out anew.
+cat > "$work/later" <<'C'
+eof 20 00 0D 00 01 02 03 04 40 00 00 00 07 00 00 00 09 06 01 05
+ack 28 00 03 00 01 02 03 06 40 01
+weof 0 0 0 0 0 0 0 0 1 1 1 2 1 3 4 7 9 1:5 21*EE
+wack 0 0 0 0 0 0 0 0 1 1 1 2 1 3 6 0 1 10*EE
+ack 20 00 03 00 01 02 03 06 40 01
+C
+compared "EOF and ACK" "$work/later" "$bin/port" \
+    '5 commands: 4 compared, 1 outside the domain, 0 differing\n0\n'
+wrong_later "another fault location" '1s/1:5/1:6/'
+wrong_later "another direction" '2s/ok 0 1/ok 0 0/'
+wrong_later "a byte beyond a written EOF changed" '3s/ee\$/ef/'
+wrong_later "another refusal of a directive" '4s/17/16/'
+changed "numbers of no form outside the domain" "$work/later" '5s/ok/stray/' \
+    '5 commands: 5 compared, 0 outside the domain'
+
+# second COMMAND EXPECTED: the port's answers against document 02, written a second time
+second() {
+    "$bin/commands" "$1" 1 > "$work/asked"
+    "$bin/port" < "$work/asked" > "$work/answers"
+    "$here/document02.py" "$work/asked" "$work/answers" | tail -n 1 > "$work/seen" || true
+    echo "$2" > "$work/expected"
+    expect "document02.py, commands $1 1" "$work/expected" "$work/seen"
+}
+
+second eof "188188 checked, 0 differ"
+# The first answer of an EOF with another file checksum.
+sed '0,/ sum [0-9]*/s// sum 4294967296/' "$work/answers" > "$work/changed"
+"$here/document02.py" "$work/asked" "$work/changed" | tail -n 1 > "$work/seen" || true
+echo "188188 checked, 1 differ" > "$work/expected"
+expect "document02.py with a wrong answer" "$work/expected" "$work/seen"
+
 # replayed NAME LIST EXPECTED: the last line of a replay
 replayed() {
     "$bin/replay" < "$2" | tail -n 1 > "$work/seen" || true
@@ -54,14 +96,14 @@ replayed() {
 }
 
 "$bin/replay_list" > "$work/list" 2> "$work/said"
-replayed "replay list" "$work/list" "4058 replayed, 0 differ"
+replayed "replay list" "$work/list" "5571 replayed, 0 differ"
 # The byte at 100 is in an answer.
 {
     head -c 100 "$work/list"
     printf '\377'
     tail -c +102 "$work/list"
 } > "$work/changed"
-replayed "replay list with a wrong answer" "$work/changed" "4058 replayed, 1 differ"
+replayed "replay list with a wrong answer" "$work/changed" "5571 replayed, 1 differ"
 
 echo "$passed passed, $failed failed"
 [ "$failed" -eq 0 ]

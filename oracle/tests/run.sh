@@ -53,8 +53,8 @@ expect "SHA256SUMS" "$work/expected" "$work/seen"
 
 # The comparer's own tests: the same answers are the same, wrong ones differ.
 (cd "$here/.." && cargo test --offline -q --lib -p tools) > "$work/said" 2>&1 || true
-grep -o '4 passed; 0 failed' "$work/said" > "$work/seen" || cp "$work/said" "$work/seen"
-echo '4 passed; 0 failed' > "$work/expected"
+grep -o '6 passed; 0 failed' "$work/said" > "$work/seen" || cp "$work/said" "$work/seen"
+echo '6 passed; 0 failed' > "$work/expected"
 expect "the comparer's own tests" "$work/expected" "$work/seen"
 
 # The list that the program of crates/replay is run on has the Rust's answers.
@@ -63,6 +63,14 @@ expect "crates/replay/stdin" "$here/../../crates/replay/stdin" "$work/seen"
 
 lines smoke
 lines silent
+
+# The lines that docs/DIFFERENCES.md gives as examples are asked of both sides.
+: > "$work/expected"
+grep -o '`w\{0,1\}\(eof\|ack\|metadata\) [^`]*`' "$here/../../docs/DIFFERENCES.md" | tr -d '`' > "$work/examples"
+for list in silent own; do
+    grep -vxFf "$here/$list.txt" "$work/examples" > "$work/seen" || true
+    expect "the examples of docs/DIFFERENCES.md in $list.txt" "$work/expected" "$work/seen"
+done
 
 full "0 1 0 0 0 0 0 0 1 1 1 2 1 3" "n:8190*100,200" 65536 8190
 full "0 1 0 0 1 0 0 0 1 1 1 2 1 3" "l:4094*100,200" 65528 4094

@@ -1,4 +1,9 @@
 // Runs every published checksum vector that we know, document 01's cases, and cases of the rules of documents 01 and 02; each is printed with where it comes from and what it gives.
+use ack::Ack;
+use ack::status::TransactionStatus;
+use eof::Eof;
+use eof::fault::EntityIdTlv;
+use eof::fault::FaultLocation;
 use fields::EntityId;
 use fields::TransactionSeqNum;
 use fields::UnsignedByteField;
@@ -432,6 +437,101 @@ fn writes_file_data() {
     most(b"file data", 3, count::calculate_max_segment_requests(3, h));
 }
 
+// What stands before a worked example.
+fn worked(example: &[u8], bytes: &[u8]) {
+    io::write_all(STDOUT_FILENO, example);
+    io::write_all(STDOUT_FILENO, b": ");
+    print_bytes(bytes);
+    io::write_all(STDOUT_FILENO, b"->\n");
+}
+
+fn eof_of(condition: u8, size: u64, fault: FaultLocation) -> Eof {
+    Eof {
+        header: header(LargeFileFlag::Normal),
+        condition,
+        file_checksum: 0x01020304,
+        size,
+        fault,
+    }
+}
+
+fn located(width: u8, id: u64) -> FaultLocation {
+    FaultLocation::At(EntityIdTlv {
+        width,
+        id: EntityId(id),
+    })
+}
+
+// Written by the tables of section 5.2.2, read back, and with one byte changed: a reserved condition code, a fault location that E cuts.
+fn eofs() {
+    let mut buf = [0xEEu8; 20];
+    io::write_all(STDOUT_FILENO, b"5.2.2, writing: ");
+    let eof = eof_of(4, 1000, located(1, 5));
+    written(
+        b"filestore rejection at entity 5",
+        eof.write_to_slice(&mut buf),
+    );
+    worked(b"5.2.2, reading", &buf);
+    listing::eofs::list(&buf);
+    buf[8] = 0xC0;
+    worked(b"document 02, reading", &buf);
+    listing::eofs::list(&buf);
+    buf[8] = 0x40;
+    buf[2] = 0x0C;
+    worked(b"document 02, reading", &buf);
+    listing::eofs::list(&buf);
+}
+
+fn refused_eofs() {
+    let mut buf = [0xEEu8; 3];
+    let size = eof_of(0, 4294967296, FaultLocation::Nowhere);
+    let width = eof_of(0, 4294967295, located(3, 5));
+    let value = eof_of(0, 0, located(1, 256));
+    io::write_all(STDOUT_FILENO, b"document 02, writing: ");
+    written(
+        b"a file of 4,294,967,296 bytes",
+        size.write_to_slice(&mut buf),
+    );
+    io::write_all(STDOUT_FILENO, b"document 02, writing: ");
+    written(
+        b"a fault location of 3 bytes",
+        width.write_to_slice(&mut buf),
+    );
+    io::write_all(STDOUT_FILENO, b"document 02, writing: ");
+    written(b"entity 256 in one byte", value.write_to_slice(&mut buf));
+    left(&buf);
+}
+
+fn ack_of(acked: u8, condition: u8, status: TransactionStatus) -> Ack {
+    Ack {
+        header: header(LargeFileFlag::Normal),
+        acked,
+        condition,
+        status,
+    }
+}
+
+// Written by the tables of section 5.2.4 and read back: of an EOF towards the sender, of a Finished towards the receiver.
+fn acks() {
+    let mut buf = [0xEEu8; 10];
+    let eof = ack_of(4, 0, TransactionStatus::Active);
+    io::write_all(STDOUT_FILENO, b"5.2.4, writing: ");
+    written(b"of an EOF", eof.write_to_slice(&mut buf));
+    worked(b"5.2.4, reading", &buf);
+    listing::acks::list(&buf);
+    let finished = ack_of(5, 15, TransactionStatus::Terminated);
+    io::write_all(STDOUT_FILENO, b"5.2.4, writing: ");
+    written(
+        b"of a Finished, cancelled",
+        finished.write_to_slice(&mut buf),
+    );
+    worked(b"5.2.4, reading", &buf);
+    listing::acks::list(&buf);
+    buf[8] = 0x60;
+    worked(b"document 02, reading", &buf);
+    listing::acks::list(&buf);
+}
+
 fn main() {
     checksums();
     readings();
@@ -447,4 +547,7 @@ fn main() {
     most_large_summed();
     reads_file_data();
     writes_file_data();
+    eofs();
+    refused_eofs();
+    acks();
 }

@@ -1,12 +1,12 @@
 -- Answers as numbers: a refusal is shown by its number and values, what was accepted by 0 and its numbers.
 -- Assumes nothing.
 use Prim.Native.Nat.{ℕ, zero, suc, _≤_}
-use mathlib.Core.Path.{_≡_, refl, sym, ap, _∙_}
+use mathlib.Core.Path.{_≡_, refl, sym, ap, ap₂, _∙_}
 use mathlib.Core.Bool.{Bool, true, false}
 use mathlib.Core.List.{List, [], _∷_, _++_}
 use native.Mathlib.Omega.{arith}
 use lib.Dec.{eqb}
-use lib.ListN.{length, getD, take}
+use lib.ListN.{length, getD, take, set}
 use borrow.Author.Tests.{eqb-true}
 use Rattle.fields.specs.Choice.{if_then_else_}
 use Rattle.fields.specs.declared.refusal.Refusal.{Refusal}
@@ -17,9 +17,12 @@ use Rattle.fields.proofs.OneToOne.{numbers-paper}
 use Rattle.fields.proofs.Judging.{told-cases}
 use Rattle.header.specs.declared.PduHeader.{PduHeader}
 use Rattle.header.specs.Flags.{pduTypeBit, directionBit, modeBit, crcBit, fileBit, controlBit, metadataBit}
-use Rattle.header.specs.Header.{headerLength, pduLength}
+use Rattle.header.specs.Header.{headerLength, pduLength, dataEnd}
+use Rattle.eof.specs.declared.Eof.{Eof}
+use Rattle.ack.specs.declared.Ack.{Ack}
+use Rattle.ack.specs.Ack.{statusBits}
 use Rattle.nak.specs.declared.reserve.ReservedNak.{ReservedNak}
-use Rattle.cfdp.specs.Shown.{padded, answerSize, answerNumbers, shown, refusalShown, headerNumbers, readHeaderNumbers, reservedNumbers}
+use Rattle.cfdp.specs.Shown.{padded, answerSize, answerNumbers, shown, refusalShown, headerNumbers, readHeaderNumbers, reservedNumbers, faultNumbers, eofNumbers, ackNumbers}
 
 -- up to three numbers, and zeros behind them
 few : (ns : List ℕ) → length ns ≤ 3 → padded answerSize ns ≡ padded answerSize (getD ns 0 0 ∷ getD ns 1 0 ∷ getD ns 2 0 ∷ [])
@@ -75,3 +78,16 @@ read-header-shown h n o out e l p = accepted-shown readHeaderNumbers h o out e (
 pub reserved-shown : (r : ReservedNak) (n : ℕ) (o : Answer ReservedNak) (out : List ℕ) → accepted r ≡ o → n ≡ pduLength (r .header) → out ≡ padded answerSize (0 ∷ (headerNumbers (r .header) ++ (r .count ∷ r .area ∷ r .stop ∷ n ∷ 0 ∷ [])))
     → out ≡ shown reservedNumbers o
 reserved-shown r n o out e l p = accepted-shown reservedNumbers r o out e (p ∙ ap (λ (k : ℕ). padded answerSize (0 ∷ (headerNumbers (r .header) ++ (r .count ∷ r .area ∷ r .stop ∷ k ∷ [])))) l)
+
+-- an ACK that was read is shown with its status as a number, and E
+pub ack-shown : (a : Ack) (s n : ℕ) (o : Answer Ack) (out : List ℕ) → accepted a ≡ o → s ≡ statusBits (a .status) → n ≡ dataEnd (a .header)
+    → out ≡ padded answerSize (0 ∷ (headerNumbers (a .header) ++ (a .acked ∷ a .condition ∷ s ∷ n ∷ 0 ∷ []))) → out ≡ shown ackNumbers o
+ack-shown a s n o out e ps pn p =
+    accepted-shown ackNumbers a o out e (p ∙ ap₂ (λ (i j : ℕ). padded answerSize (0 ∷ (headerNumbers (a .header) ++ (a .acked ∷ a .condition ∷ i ∷ j ∷ [])))) ps pn)
+
+-- an EOF's last two numbers are stored behind the others
+pub eof-numbers : (e : Eof) (t w v n : ℕ) (b : List ℕ) → t ∷ w ∷ v ∷ [] ≡ faultNumbers (e .fault) → n ≡ dataEnd (e .header)
+    → b ≡ padded answerSize (0 ∷ (headerNumbers (e .header) ++ (e .condition ∷ e .«file_checksum» ∷ e .size ∷ t ∷ w ∷ []))) → set (set b 20 v) 21 n ≡ padded answerSize (0 ∷ eofNumbers e)
+eof-numbers e t w v n b pf pn p =
+    ap (λ (x : List ℕ). set (set x 20 v) 21 n) p
+    ∙ ap₂ (λ (fs : List ℕ) (i : ℕ). padded answerSize (0 ∷ (headerNumbers (e .header) ++ (e .condition ∷ e .«file_checksum» ∷ e .size ∷ (fs ++ (i ∷ [])))))) pf pn

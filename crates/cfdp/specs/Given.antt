@@ -1,6 +1,6 @@
 -- A header that goes in as numbers: its shape (seven flags and three widths), d, and its three values.
 use Prim.Native.Nat.{ℕ, _+_}
-use mathlib.Core.Bool.{Bool, not}
+use mathlib.Core.Bool.{Bool, true, false, not}
 use mathlib.Core.List.{List}
 use lib.Dec.{eqb}
 use lib.ListN.{getD}
@@ -10,6 +10,11 @@ use Rattle.fields.specs.Staged.{run}
 use Rattle.header.specs.declared.PduHeader.{PduHeader}
 use Rattle.header.specs.Flags.{pduTypeIf, directionIf, modeIf, crcIf, fileIf, controlIf, metadataIf}
 use Rattle.header.specs.Judging.{joining}
+use Rattle.eof.specs.declared.Eof.{Eof}
+use Rattle.eof.specs.declared.fault.FaultLocation.{FaultLocation}
+use Rattle.eof.specs.declared.fault.FaultLocation.the-variants.{At, Nowhere}
+use Rattle.ack.specs.declared.Ack.{Ack}
+use Rattle.ack.specs.declared.status.TransactionStatus.{TransactionStatus}
 use Rattle.nak.specs.declared.reserve.ReservedNak.{ReservedNak}
 use Rattle.nak.specs.Reading.{readingNak}
 
@@ -42,13 +47,25 @@ recordFrom shape d ids =
 unfoldable pub headerFrom : List ℕ → ℕ → List ℕ → Answer PduHeader
 headerFrom shape d ids = joining (fieldFrom shape ids 0) (fieldFrom shape ids 2) (recordFrom shape d ids)
 
--- the header of a NAK that is to be written, whose length is worked out and not given
-abbrev pub nakHeader : List ℕ → List ℕ → Answer PduHeader
-nakHeader shape ids = headerFrom shape 0 ids
+-- the header of a PDU that is to be written, whose length is worked out and not given
+abbrev pub givenHeader : List ℕ → List ℕ → Answer PduHeader
+givenHeader shape ids = headerFrom shape 0 ids
 
 -- a NAK that was reserved: its header and its pairs; where its area lies is worked out anew
 abbrev pub reservedFrom : PduHeader → ℕ → ReservedNak
 reservedFrom h pairs = record { header = h; count = pairs; area = 0; stop = 0 }
+
+-- a fault location, if there is one, by its width and value, and the EOF that has it
+abbrev pub faultFrom : Bool → ℕ → ℕ → FaultLocation
+faultFrom true width value = At (record { width = width; id = record { 0 = value } })
+faultFrom false width value = Nowhere
+
+abbrev pub eofFrom : PduHeader → ℕ → ℕ → ℕ → FaultLocation → Eof
+eofFrom h condition checksum size fault = record { header = h; condition = condition; «file_checksum» = checksum; size = size; fault = fault }
+
+-- an ACK, by its status
+abbrev pub ackFrom : PduHeader → ℕ → ℕ → TransactionStatus → Ack
+ackFrom h directive condition status = record { header = h; acked = directive; condition = condition; status = status }
 
 -- the lent buffer at exit: what is left of it by the header that was given; where there is none no byte changes
 abbrev pub leftBy : Answer PduHeader → (PduHeader → List ℕ) → List ℕ → List ℕ

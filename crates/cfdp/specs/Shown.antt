@@ -7,7 +7,12 @@ use Rattle.fields.specs.Refusal.{paper}
 use Rattle.fields.specs.Answer.{Answer, accepted, short, refused}
 use Rattle.header.specs.declared.PduHeader.{PduHeader}
 use Rattle.header.specs.Flags.{pduTypeBit, directionBit, modeBit, crcBit, fileBit, controlBit, metadataBit}
-use Rattle.header.specs.Header.{headerLength, pduLength}
+use Rattle.header.specs.Header.{headerLength, pduLength, dataEnd}
+use Rattle.eof.specs.declared.Eof.{Eof}
+use Rattle.eof.specs.declared.fault.FaultLocation.{FaultLocation}
+use Rattle.eof.specs.declared.fault.FaultLocation.the-variants.{At, Nowhere}
+use Rattle.ack.specs.declared.Ack.{Ack}
+use Rattle.ack.specs.Ack.{statusBits}
 use Rattle.nak.specs.declared.Nak.{Nak}
 use Rattle.nak.specs.declared.reserve.ReservedNak.{ReservedNak}
 use Rattle.header.specs.declared.pdu.PduWritten.{PduWritten}
@@ -66,7 +71,20 @@ readHeaderNumbers h = headerNumbers h ++ (headerLength h ∷ [])
 abbrev pub nakNumbers : Nak → List ℕ
 nakNumbers n = headerNumbers (n .header) ++ (n .start ∷ n .end ∷ n .area ∷ n .stop ∷ n .count ∷ [])
 
--- a NAK that was written: the header handed back, and the written length
+-- a fault location: 1 where there is one, its width and its value; else zeros
+abbrev pub faultNumbers : FaultLocation → List ℕ
+faultNumbers (At t) = 1 ∷ t .width ∷ t .id .0 ∷ []
+faultNumbers Nowhere = 0 ∷ 0 ∷ 0 ∷ []
+
+-- an EOF that was read: header, condition code, file checksum, file size, fault location, E
+abbrev pub eofNumbers : Eof → List ℕ
+eofNumbers e = headerNumbers (e .header) ++ (e .condition ∷ e .«file_checksum» ∷ e .size ∷ (faultNumbers (e .fault) ++ (dataEnd (e .header) ∷ [])))
+
+-- an ACK that was read: header, acknowledged directive, condition code, transaction status, E
+abbrev pub ackNumbers : Ack → List ℕ
+ackNumbers a = headerNumbers (a .header) ++ (a .acked ∷ a .condition ∷ statusBits (a .status) ∷ dataEnd (a .header) ∷ [])
+
+-- a PDU that was written: the header handed back, and the written length
 abbrev pub writtenNumbers : PduWritten → List ℕ
 writtenNumbers w = headerNumbers (w .header) ++ (w .length ∷ [])
 

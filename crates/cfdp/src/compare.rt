@@ -7,7 +7,7 @@ ghost use Rattle.fields.specs.Refusal.{paper};
 ghost use Rattle.fields.specs.Staged.{run};
 ghost use Rattle.nak.specs.Reading.{readingNak};
 ghost use Rattle.nak.specs.Comparing.{compareAnswer, comparing};
-ghost use Rattle.cfdp.specs.Given.{nakHeader, comparingFrom};
+ghost use Rattle.cfdp.specs.Given.{givenHeader, comparingFrom};
 ghost use Rattle.cfdp.specs.Shown.{shown, verdictNumber};
 use crate::Answer;
 use crate::header_from;
@@ -51,7 +51,7 @@ pub extern "C" fn cfdp_nak_compare(
     end: u64,
     answer: &mut Answer,
 )
-    ensures { λ _. ⌜ now (answer .exit) ≡ shown verdictNumber (comparingFrom (nakHeader (now (shape .entry)) (now (ids .entry))) (λ h. comparing (h .file) h start end [] (now (bytes .entry))) (now (bytes .entry))) ⌝ }
+    ensures { λ _. ⌜ now (answer .exit) ≡ shown verdictNumber (comparingFrom (givenHeader (now (shape .entry)) (now (ids .entry))) (λ h. comparing (h .file) h start end [] (now (bytes .entry))) (now (bytes .entry))) ⌝ }
 {
     let joined = header_from(shape, 0, ids);
     match joined {
@@ -73,7 +73,7 @@ pub extern "C" fn cfdp_nak_compare_normal(
     numbers: &[u32],
     answer: &mut Answer,
 )
-    ensures { λ _. ⌜ now (answer .exit) ≡ shown verdictNumber (comparingFrom (nakHeader (now (shape .entry)) (now (ids .entry))) (λ h. comparing LargeFileFlag.Normal h start end (now (numbers .entry)) (now (bytes .entry))) (now (bytes .entry))) ⌝ }
+    ensures { λ _. ⌜ now (answer .exit) ≡ shown verdictNumber (comparingFrom (givenHeader (now (shape .entry)) (now (ids .entry))) (λ h. comparing LargeFileFlag.Normal h start end (now (numbers .entry)) (now (bytes .entry))) (now (bytes .entry))) ⌝ }
 {
     let joined = header_from(shape, 0, ids);
     match joined {
@@ -95,7 +95,7 @@ pub extern "C" fn cfdp_nak_compare_large(
     numbers: &[u64],
     answer: &mut Answer,
 )
-    ensures { λ _. ⌜ now (answer .exit) ≡ shown verdictNumber (comparingFrom (nakHeader (now (shape .entry)) (now (ids .entry))) (λ h. comparing LargeFileFlag.Large h start end (now (numbers .entry)) (now (bytes .entry))) (now (bytes .entry))) ⌝ }
+    ensures { λ _. ⌜ now (answer .exit) ≡ shown verdictNumber (comparingFrom (givenHeader (now (shape .entry)) (now (ids .entry))) (λ h. comparing LargeFileFlag.Large h start end (now (numbers .entry)) (now (bytes .entry))) (now (bytes .entry))) ⌝ }
 {
     let joined = header_from(shape, 0, ids);
     match joined {

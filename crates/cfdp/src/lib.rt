@@ -21,7 +21,9 @@ use header::SegmentationControl;
 use header::TransmissionMode;
 use header::pdu::WriteResult;
 
+pub mod acks;
 pub mod compare;
+pub mod eofs;
 pub mod headers;
 pub mod read;
 pub mod reserve;

@@ -3,7 +3,7 @@ ghost use mathlib.Core.Path.{_≡_};
 ghost use lib.ListN.{length};
 ghost use Rattle.fields.specs.Answer.{andThen};
 ghost use Rattle.nak.specs.Reserving.{reserveAnswer, reserving, finishing, finishedMemory};
-ghost use Rattle.cfdp.specs.Given.{nakHeader, reservedFrom, leftBy};
+ghost use Rattle.cfdp.specs.Given.{givenHeader, reservedFrom, leftBy};
 ghost use Rattle.cfdp.specs.Shown.{shown, reservedNumbers, writtenNumbers};
 use crate::Answer;
 use crate::header_from;
@@ -38,7 +38,7 @@ pub extern "C" fn cfdp_nak_reserve(
     buf: &[u8],
     answer: &mut Answer,
 )
-    ensures { λ _. ⌜ now (answer .exit) ≡ shown reservedNumbers (andThen (nakHeader (now (shape .entry)) (now (ids .entry))) (λ h. reserving h pairs (length (now (buf .entry))))) ⌝ }
+    ensures { λ _. ⌜ now (answer .exit) ≡ shown reservedNumbers (andThen (givenHeader (now (shape .entry)) (now (ids .entry))) (λ h. reserving h pairs (length (now (buf .entry))))) ⌝ }
 {
     let joined = header_from(shape, 0, ids);
     match joined {
@@ -61,8 +61,8 @@ pub extern "C" fn cfdp_nak_finish(
     buf: &mut [u8],
     answer: &mut Answer,
 )
-    ensures answered { λ _. ⌜ now (answer .exit) ≡ shown writtenNumbers (andThen (nakHeader (now (shape .entry)) (now (ids .entry))) (λ h. finishing (reservedFrom h pairs) start end (length (now (buf .entry))))) ⌝ }
-    ensures stored { λ _. ⌜ now (buf .exit) ≡ leftBy (nakHeader (now (shape .entry)) (now (ids .entry))) (λ h. finishedMemory (reservedFrom h pairs) start end (now (buf .entry))) (now (buf .entry)) ⌝ }
+    ensures answered { λ _. ⌜ now (answer .exit) ≡ shown writtenNumbers (andThen (givenHeader (now (shape .entry)) (now (ids .entry))) (λ h. finishing (reservedFrom h pairs) start end (length (now (buf .entry))))) ⌝ }
+    ensures stored { λ _. ⌜ now (buf .exit) ≡ leftBy (givenHeader (now (shape .entry)) (now (ids .entry))) (λ h. finishedMemory (reservedFrom h pairs) start end (now (buf .entry))) (now (buf .entry)) ⌝ }
 {
     let joined = header_from(shape, 0, ids);
     match joined {

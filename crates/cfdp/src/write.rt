@@ -5,7 +5,7 @@ ghost use lib.ListN.{length};
 ghost use Rattle.fields.specs.Answer.{andThen};
 ghost use Rattle.nak.specs.Counting.{countAnswer, mostRequests};
 ghost use Rattle.nak.specs.Writing.{writingNak, nakMemory};
-ghost use Rattle.cfdp.specs.Given.{nakHeader, leftBy};
+ghost use Rattle.cfdp.specs.Given.{givenHeader, leftBy};
 ghost use Rattle.cfdp.specs.Shown.{shown, oneNumber, writtenNumbers};
 use crate::Answer;
 use crate::header_from;
@@ -27,8 +27,8 @@ pub extern "C" fn cfdp_nak_write(
     buf: &mut [u8],
     answer: &mut Answer,
 )
-    ensures answered { λ _. ⌜ now (answer .exit) ≡ shown writtenNumbers (andThen (nakHeader (now (shape .entry)) (now (ids .entry))) (λ h. writingNak (h .file) h start end 0 (length (now (buf .entry))))) ⌝ }
-    ensures stored { λ _. ⌜ now (buf .exit) ≡ leftBy (nakHeader (now (shape .entry)) (now (ids .entry))) (λ h. nakMemory (h .file) h start end [] (now (buf .entry))) (now (buf .entry)) ⌝ }
+    ensures answered { λ _. ⌜ now (answer .exit) ≡ shown writtenNumbers (andThen (givenHeader (now (shape .entry)) (now (ids .entry))) (λ h. writingNak (h .file) h start end 0 (length (now (buf .entry))))) ⌝ }
+    ensures stored { λ _. ⌜ now (buf .exit) ≡ leftBy (givenHeader (now (shape .entry)) (now (ids .entry))) (λ h. nakMemory (h .file) h start end [] (now (buf .entry))) (now (buf .entry)) ⌝ }
 {
     let joined = header_from(shape, 0, ids);
     match joined {
@@ -50,8 +50,8 @@ pub extern "C" fn cfdp_nak_write_normal(
     buf: &mut [u8],
     answer: &mut Answer,
 )
-    ensures answered { λ _. ⌜ now (answer .exit) ≡ shown writtenNumbers (andThen (nakHeader (now (shape .entry)) (now (ids .entry))) (λ h. writingNak LargeFileFlag.Normal h start end (length (now (numbers .entry))) (length (now (buf .entry))))) ⌝ }
-    ensures stored { λ _. ⌜ now (buf .exit) ≡ leftBy (nakHeader (now (shape .entry)) (now (ids .entry))) (λ h. nakMemory LargeFileFlag.Normal h start end (now (numbers .entry)) (now (buf .entry))) (now (buf .entry)) ⌝ }
+    ensures answered { λ _. ⌜ now (answer .exit) ≡ shown writtenNumbers (andThen (givenHeader (now (shape .entry)) (now (ids .entry))) (λ h. writingNak LargeFileFlag.Normal h start end (length (now (numbers .entry))) (length (now (buf .entry))))) ⌝ }
+    ensures stored { λ _. ⌜ now (buf .exit) ≡ leftBy (givenHeader (now (shape .entry)) (now (ids .entry))) (λ h. nakMemory LargeFileFlag.Normal h start end (now (numbers .entry)) (now (buf .entry))) (now (buf .entry)) ⌝ }
 {
     let joined = header_from(shape, 0, ids);
     match joined {
@@ -73,8 +73,8 @@ pub extern "C" fn cfdp_nak_write_large(
     buf: &mut [u8],
     answer: &mut Answer,
 )
-    ensures answered { λ _. ⌜ now (answer .exit) ≡ shown writtenNumbers (andThen (nakHeader (now (shape .entry)) (now (ids .entry))) (λ h. writingNak LargeFileFlag.Large h start end (length (now (numbers .entry))) (length (now (buf .entry))))) ⌝ }
-    ensures stored { λ _. ⌜ now (buf .exit) ≡ leftBy (nakHeader (now (shape .entry)) (now (ids .entry))) (λ h. nakMemory LargeFileFlag.Large h start end (now (numbers .entry)) (now (buf .entry))) (now (buf .entry)) ⌝ }
+    ensures answered { λ _. ⌜ now (answer .exit) ≡ shown writtenNumbers (andThen (givenHeader (now (shape .entry)) (now (ids .entry))) (λ h. writingNak LargeFileFlag.Large h start end (length (now (numbers .entry))) (length (now (buf .entry))))) ⌝ }
+    ensures stored { λ _. ⌜ now (buf .exit) ≡ leftBy (givenHeader (now (shape .entry)) (now (ids .entry))) (λ h. nakMemory LargeFileFlag.Large h start end (now (numbers .entry)) (now (buf .entry))) (now (buf .entry)) ⌝ }
 {
     let joined = header_from(shape, 0, ids);
     match joined {
@@ -102,7 +102,7 @@ pub extern "C" fn cfdp_nak_most(
     packet: usize,
     answer: &mut Answer,
 )
-    ensures { λ _. ⌜ now (answer .exit) ≡ shown oneNumber (andThen (nakHeader (now (shape .entry)) (now (ids .entry))) (λ h. mostRequests h packet)) ⌝ }
+    ensures { λ _. ⌜ now (answer .exit) ≡ shown oneNumber (andThen (givenHeader (now (shape .entry)) (now (ids .entry))) (λ h. mostRequests h packet)) ⌝ }
 {
     let joined = header_from(shape, 0, ids);
     match joined {

@@ -140,6 +140,10 @@ module _ {A B : Type 0} (ns : List ℕ) where
       go true d rest = told-as (t .says) d
       go false d rest = rest d
 
+  -- tests refuse alike whatever might have been accepted
+  pub refused-same : (ts : List Test) (a : A) (b : B) → told ns ≡ firstOf ts a → told ns ≡ firstOf ts b
+  refused-same ts a b e = rw (append-nil ts) at (refused-on ts [] a b e)
+
   -- what goes on from a refusal is that refusal
   pub told-on : (f : A → Answer B) → andThen (told ns) f ≡ told ns
   unfolding told
@@ -155,7 +159,7 @@ judged-passed ts e = passed ts tt tt e .0
 
 module _ {A : Type 0} (ts us : List Test) (p : Passed ts) (a : A) where
   pub refused-after : {B : Type 0} (b : B) (ns : List ℕ) → told ns ≡ firstOf us b → told ns ≡ firstOf (ts ++ us) a
-  refused-after b ns e = rw (append-nil us) at (refused-on ns us [] b a e) ∙ sym (passed-on ts us a p)
+  refused-after b ns e = refused-same ns us b a e ∙ sym (passed-on ts us a p)
 
   pub passed-after : Passed us → accepted a ≡ firstOf (ts ++ us) a
   passed-after q = sym (all-passed us a q) ∙ sym (passed-on ts us a p)

@@ -10,7 +10,7 @@ use Rattle.fields.specs.Choice.{if_then_else_}
 use Rattle.fields.specs.Answer.{Answer, accepted, short, refused, told}
 use Rattle.fields.specs.Refusal.{paper, numbersOf, listed}
 use Rattle.fields.specs.declared.refusal.Refusal.{Refusal}
-use Rattle.fields.specs.declared.refusal.Refusal.the-variants.{FromSliceTooSmall, CfdpVersionMissmatch, InvalidEntityLen, InvalidTransactionSeqNumLen, Checksum, DataFieldTooSmall, InvalidDirectiveType, WrongDirectiveType, InvalidStartOrEndOfScope, TooManySegmentRequests, ToSliceTooSmall, OddCount, SourceDestIdLenMissmatch, ValueTooLargeForWidth, TooSmallForPduHeader, NotADirective}
+use Rattle.fields.specs.declared.refusal.Refusal.the-variants.{FromSliceTooSmall, CfdpVersionMissmatch, InvalidEntityLen, InvalidTransactionSeqNumLen, Checksum, DataFieldTooSmall, InvalidDirectiveType, WrongDirectiveType, InvalidStartOrEndOfScope, TooManySegmentRequests, ToSliceTooSmall, OddCount, SourceDestIdLenMissmatch, ValueTooLargeForWidth, TooSmallForPduHeader, InvalidConditionCode, InvalidAckedDirectiveCode, NotADirective, InvalidFaultLocation, FileSizeTooLarge}
 
 -- what has a way back is one-to-one
 pub one-to-one : {R S : Type 0} (f : R → S) (g : S → R) → ((r : R) → g (f r) ≡ r) → (a b : R) → f a ≡ f b → a ≡ b
@@ -34,7 +34,11 @@ refusalOf ns =
     else if eqb (getD ns 0 0) 13 then SourceDestIdLenMissmatch (getD ns 1 0) (getD ns 2 0)
     else if eqb (getD ns 0 0) 14 then ValueTooLargeForWidth (getD ns 1 0) (getD ns 2 0)
     else if eqb (getD ns 0 0) 15 then TooSmallForPduHeader
-    else NotADirective
+    else if eqb (getD ns 0 0) 16 then InvalidConditionCode
+    else if eqb (getD ns 0 0) 17 then InvalidAckedDirectiveCode
+    else if eqb (getD ns 0 0) 21 then NotADirective
+    else if eqb (getD ns 0 0) 28 then InvalidFaultLocation
+    else FileSizeTooLarge
 
 back : (r : Refusal) → refusalOf (paper r) ≡ r
 unfolding refusalOf
@@ -53,7 +57,11 @@ back (OddCount n) = refl
 back (SourceDestIdLenMissmatch a b) = refl
 back (ValueTooLargeForWidth v w) = refl
 back TooSmallForPduHeader = refl
+back InvalidConditionCode = refl
+back InvalidAckedDirectiveCode = refl
 back NotADirective = refl
+back InvalidFaultLocation = refl
+back FileSizeTooLarge = refl
 
 -- no two refusals have the same number and values
 pub paper-one-to-one : (a b : Refusal) → paper a ≡ paper b → a ≡ b
@@ -76,7 +84,11 @@ numbers-paper (OddCount n) = refl
 numbers-paper (SourceDestIdLenMissmatch a b) = refl
 numbers-paper (ValueTooLargeForWidth v w) = refl
 numbers-paper TooSmallForPduHeader = refl
+numbers-paper InvalidConditionCode = refl
+numbers-paper InvalidAckedDirectiveCode = refl
 numbers-paper NotADirective = refl
+numbers-paper InvalidFaultLocation = refl
+numbers-paper FileSizeTooLarge = refl
 
 -- ---- an answer that is an enum of what is accepted and a refusal, back from document 01's terms
 

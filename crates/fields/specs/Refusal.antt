@@ -3,7 +3,7 @@ use Prim.Native.Nat.{ℕ, _-_}
 use mathlib.Core.List.{List, [], _∷_}
 use lib.ListN.{length, getD, take}
 use Rattle.fields.specs.declared.refusal.Refusal.{Refusal}
-use Rattle.fields.specs.declared.refusal.Refusal.the-variants.{FromSliceTooSmall, CfdpVersionMissmatch, InvalidEntityLen, InvalidTransactionSeqNumLen, Checksum, DataFieldTooSmall, InvalidDirectiveType, WrongDirectiveType, InvalidStartOrEndOfScope, TooManySegmentRequests, ToSliceTooSmall, OddCount, SourceDestIdLenMissmatch, ValueTooLargeForWidth, TooSmallForPduHeader, NotADirective}
+use Rattle.fields.specs.declared.refusal.Refusal.the-variants.{FromSliceTooSmall, CfdpVersionMissmatch, InvalidEntityLen, InvalidTransactionSeqNumLen, Checksum, DataFieldTooSmall, InvalidDirectiveType, WrongDirectiveType, InvalidStartOrEndOfScope, TooManySegmentRequests, ToSliceTooSmall, OddCount, SourceDestIdLenMissmatch, ValueTooLargeForWidth, TooSmallForPduHeader, InvalidConditionCode, InvalidAckedDirectiveCode, NotADirective, InvalidFaultLocation, FileSizeTooLarge}
 use Rattle.fields.specs.declared.refusal.RefusalNumbers.{RefusalNumbers}
 
 abbrev pub paper : Refusal → List ℕ
@@ -22,7 +22,11 @@ paper (OddCount count) = 12 ∷ count ∷ []
 paper (SourceDestIdLenMissmatch source destination) = 13 ∷ source ∷ destination ∷ []
 paper (ValueTooLargeForWidth value width) = 14 ∷ value ∷ width ∷ []
 paper TooSmallForPduHeader = 15 ∷ []
+paper InvalidConditionCode = 16 ∷ []
+paper InvalidAckedDirectiveCode = 17 ∷ []
 paper NotADirective = 21 ∷ []
+paper InvalidFaultLocation = 28 ∷ []
+paper FileSizeTooLarge = 29 ∷ []
 
 -- the same as a record of fixed size: the number, how many values there are, and these; a value that there is not is 0
 abbrev pub numbersOf : Refusal → RefusalNumbers

@@ -2,7 +2,7 @@
 ghost use mathlib.Core.Path.{_≡_};
 ghost use Rattle.fields.specs.Refusal.{numbersOf};
 
-// Names are the Rust's, where the Rust has one; the names of 6, 10, 12 and 21 are the port's own.
+// Names are the Rust's, where the Rust has one; the names of 6, 10, 12, 21 and 28 are the port's own.
 pub enum Refusal {
     // 1: buffer short.
     FromSliceTooSmall { found: usize, expected: usize },
@@ -34,8 +34,16 @@ pub enum Refusal {
     ValueTooLargeForWidth { value: u64, width: u8 },
     // 15: packet size below h + 1 + F, plus 2 with CRC.
     TooSmallForPduHeader,
+    // 16: reserved condition code.
+    InvalidConditionCode,
+    // 17: acknowledged directive not allowed.
+    InvalidAckedDirectiveCode,
     // 21: not a directive: a PDU of type 1, file data.
     NotADirective,
+    // 28: the bytes after the file size of an EOF are not one entity identifier field of an allowed width.
+    InvalidFaultLocation,
+    // 29: file size above 2^32 - 1 without the large file flag.
+    FileSizeTooLarge,
 }
 
 // A refusal as document 01 prints it: its number, how many values it returns, and these; a value that it does not
@@ -103,7 +111,11 @@ impl Refusal {
             } => two(13, source as u64, destination as u64),
             Refusal::ValueTooLargeForWidth { value, width } => two(14, value, width as u64),
             Refusal::TooSmallForPduHeader => none(15),
+            Refusal::InvalidConditionCode => none(16),
+            Refusal::InvalidAckedDirectiveCode => none(17),
             Refusal::NotADirective => none(21),
+            Refusal::InvalidFaultLocation => none(28),
+            Refusal::FileSizeTooLarge => none(29),
         }
     }
 }

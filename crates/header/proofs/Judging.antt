@@ -1,33 +1,68 @@
 -- Judging a record: its answer at each test, and what a record that passed is known to be.
 -- Assumes nothing.
-use Prim.Native.Nat.{ℕ}
+use Prim.Native.Nat.{ℕ, _^_, _<_}
 use mathlib.Core.Path.{_≡_, refl, sym, ap, _∙_}
 use mathlib.Core.Bool.{true, false}
 use mathlib.Core.List.{List, [], _∷_, _++_}
 use borrow.Author.Tests.{eq-eqb, ne-eqb, not-false}
 use Rattle.fields.specs.declared.field.UnsignedByteField.{UnsignedByteField}
+use Rattle.fields.specs.declared.field.EntityId.{EntityId}
 use Rattle.fields.specs.Width.{isWidth, fitsField}
 use Rattle.fields.specs.Answer.{Answer, accepted, told, andThen, Test, firstOf, allOf}
 use Rattle.fields.proofs.Width.{width-small, fits-lt}
-use Rattle.fields.proofs.Judging.{Passed, passed, refused-on, told-on, told-is-refused}
+use Rattle.fields.proofs.Judging.{Passed, passed, judged-passed, refused-on, told-on, told-is-refused}
 use Rattle.header.specs.declared.PduHeader.{PduHeader}
 use Rattle.header.specs.declared.flags.Direction.{Direction}
 use Rattle.header.specs.declared.flags.LargeFileFlag.{LargeFileFlag}
 use Rattle.header.specs.Header.{sourceId, destId, withDirection, withFileFlag, withLength}
-use Rattle.header.specs.Judging.{tooLarge, widthTests, recordTests, judging, joining, building, Sound}
+use Rattle.header.specs.Judging.{wrongEntityWidth, wrongSequenceWidth, tooLarge, widthTests, entityTests, recordTests, judging, joining, building, Sound}
 
 -- ---- the two widths
 
-module _ (entity sequence : ℕ) where
-  pub bad-entity : isWidth entity ≡ false → told (3 ∷ entity ∷ []) ≡ allOf (widthTests entity sequence)
+module _ (entity : ℕ) where
+  pub bad-entity : isWidth entity ≡ false → told (3 ∷ entity ∷ []) ≡ allOf (wrongEntityWidth entity ∷ [])
   bad-entity w = rw (told-is-refused 3 _ refl, w)
 
-  module _ (we : isWidth entity ≡ true) where
-    pub bad-sequence : isWidth sequence ≡ false → told (4 ∷ sequence ∷ []) ≡ allOf (widthTests entity sequence)
-    bad-sequence w = rw (told-is-refused 4 _ refl, we, w)
+  pub good-entity : isWidth entity ≡ true → accepted tt ≡ allOf (wrongEntityWidth entity ∷ [])
+  good-entity w = rw w
 
-    pub both-widths : isWidth sequence ≡ true → accepted tt ≡ allOf (widthTests entity sequence)
-    both-widths w = rw (we, w)
+  pub refused-entity : (sequence : ℕ) (ns : List ℕ) → told ns ≡ allOf (wrongEntityWidth entity ∷ []) → told ns ≡ allOf (widthTests entity sequence)
+  refused-entity sequence ns e = refused-on ns (wrongEntityWidth entity ∷ []) (wrongSequenceWidth sequence ∷ []) tt tt e
+
+  module _ (e : accepted tt ≡ allOf (wrongEntityWidth entity ∷ [])) where
+    width-is : wrongEntityWidth entity .holds ≡ false
+    width-is = judged-passed (wrongEntityWidth entity ∷ []) e .0
+
+    module _ (sequence : ℕ) where
+      pub bad-sequence : isWidth sequence ≡ false → told (4 ∷ sequence ∷ []) ≡ allOf (widthTests entity sequence)
+      bad-sequence w = rw (told-is-refused 4 _ refl, width-is, w)
+
+      pub both-widths : isWidth sequence ≡ true → accepted tt ≡ allOf (widthTests entity sequence)
+      both-widths w = rw (width-is, w)
+
+    -- ---- an identifier that has a width of its own
+
+    module _ (id : EntityId) (field : UnsignedByteField) (is : field ≡ record { width = entity; value = id .0 }) where
+      pub bad-id : fitsField field ≡ false → told (14 ∷ field .value ∷ field .width ∷ []) ≡ allOf (entityTests entity id)
+      unfolding entityTests
+      bad-id f = rw (told-is-refused 14 _ refl, is, width-is, rw is at f)
+
+      pub good-id : fitsField field ≡ true → accepted tt ≡ allOf (entityTests entity id)
+      unfolding entityTests
+      good-id f = rw (width-is, rw is at f)
+
+pub refused-width : (w : ℕ) (id : EntityId) (ns : List ℕ) → told ns ≡ allOf (wrongEntityWidth w ∷ []) → told ns ≡ allOf (entityTests w id)
+unfolding entityTests
+refused-width w id ns e = refused-on ns (wrongEntityWidth w ∷ []) (tooLarge (record { width = w; value = id .0 }) ∷ []) tt tt e
+
+-- one that passed
+pub record SoundId (w : ℕ) (id : EntityId) : Type 0 where
+  pub is-width : isWidth w ≡ true
+  pub fits : id .0 < 256 ^ w
+
+pub sound-id : (w : ℕ) (id : EntityId) → Passed (entityTests w id) → SoundId w id
+unfolding entityTests
+sound-id w id p = record { is-width = not-false _ (p .0); fits = fits-lt _ _ (not-false _ (p .1 .0)) }
 
 -- ---- the record
 

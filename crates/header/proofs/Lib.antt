@@ -9,6 +9,7 @@ pub mod Directives
 pub mod Pdus
 pub mod PdusBack
 pub mod Sizes
+pub mod Conditions
 pub mod Comparing
 pub mod RoundTrip
 pub mod Demands

@@ -5,6 +5,7 @@ use mathlib.Core.Bool.{not}
 use mathlib.Core.List.{List, [], _∷_}
 use lib.Dec.{eqb}
 use Rattle.fields.specs.declared.field.UnsignedByteField.{UnsignedByteField}
+use Rattle.fields.specs.declared.field.EntityId.{EntityId}
 use Rattle.fields.specs.Width.{isWidth, fitsField}
 use Rattle.fields.specs.Answer.{Answer, andThen, Test, when, firstOf}
 use Rattle.header.specs.declared.PduHeader.{PduHeader}
@@ -29,6 +30,10 @@ tooLarge f = when (not (fitsField f)) (14 ∷ f .value ∷ f .width ∷ [])
 -- 3, 4
 abbrev pub widthTests : ℕ → ℕ → List Test
 widthTests entity sequence = wrongEntityWidth entity ∷ wrongSequenceWidth sequence ∷ []
+
+-- 3, 14, of an identifier that has a width of its own (C-01)
+unfoldable pub entityTests : ℕ → EntityId → List Test
+entityTests w id = wrongEntityWidth w ∷ tooLarge (record { width = w; value = id .0 }) ∷ []
 
 -- 3, 4, 14 (for source, then sequence, then destination)
 unfoldable pub recordTests : PduHeader → List Test

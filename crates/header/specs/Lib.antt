@@ -10,6 +10,7 @@ pub mod Code
 pub mod Directive
 pub mod Pdu
 pub mod Size
+pub mod Condition
 pub mod Comparing
 pub mod Within
 pub mod Demands

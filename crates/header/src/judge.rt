@@ -1,8 +1,9 @@
 // Judging a header record (refusals 3, 4 and 14), and building one from two identifiers that have a width each (13 before them).
 ghost use mathlib.Core.Path.{_≡_};
+ghost use mathlib.Core.List.{[], _∷_};
 ghost use Rattle.fields.specs.Answer.{allOf};
 ghost use Rattle.header.specs.Answers.{headerAnswer, judgedAnswer};
-ghost use Rattle.header.specs.Judging.{widthTests, judging, joining, building};
+ghost use Rattle.header.specs.Judging.{wrongEntityWidth, widthTests, entityTests, judging, joining, building};
 use crate::CrcFlag;
 use crate::Direction;
 use crate::HeaderResult;
@@ -19,12 +20,23 @@ use fields::TransactionSeqNum;
 use fields::UnsignedByteField;
 use fields::field;
 
+// 3.
+fn judge_entity_width(width: u8) -> Judged
+    ensures { λ r. ⌜ judgedAnswer r ≡ allOf (wrongEntityWidth width ∷ []) ⌝ }
+{
+    if !field::is_width(width) {
+        return Judged::Refused(Refusal::InvalidEntityLen(width));
+    }
+    Judged::Passed
+}
+
 // 3, then 4.
 pub(crate) fn judge_widths(entity: u8, sequence: u8) -> Judged
     ensures { λ r. ⌜ judgedAnswer r ≡ allOf (widthTests entity sequence) ⌝ }
 {
-    if !field::is_width(entity) {
-        return Judged::Refused(Refusal::InvalidEntityLen(entity));
+    let judged = judge_entity_width(entity);
+    if let Judged::Refused(refusal) = judged {
+        return Judged::Refused(refusal);
     }
     if !field::is_width(sequence) {
         return Judged::Refused(Refusal::InvalidTransactionSeqNumLen(sequence));
@@ -39,6 +51,21 @@ fn too_large(field: UnsignedByteField) -> Refusal
         value: field.value,
         width: field.width,
     }
+}
+
+// 3, then 14: an identifier that has a width of its own.
+pub fn judge_entity(width: u8, id: EntityId) -> Judged
+    ensures { λ r. ⌜ judgedAnswer r ≡ allOf (entityTests width id) ⌝ }
+{
+    let judged = judge_entity_width(width);
+    if let Judged::Refused(refusal) = judged {
+        return Judged::Refused(refusal);
+    }
+    let field = UnsignedByteField::new(width, id.0);
+    if !field.fits() {
+        return Judged::Refused(too_large(field));
+    }
+    Judged::Passed
 }
 
 impl PduHeader {

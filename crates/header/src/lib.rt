@@ -9,6 +9,7 @@ use fields::UnsignedByteField;
 
 pub mod code;
 pub mod compare;
+pub mod condition;
 pub mod directive;
 pub mod flags;
 pub mod judge;

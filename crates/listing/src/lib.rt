@@ -1,15 +1,19 @@
-// Prints a NAK, or why it is refused, in document 01's words. What is printed is tested and not proved.
+// Prints a NAK, an EOF or an ACK, or why it is refused: of a NAK in document 01's words. What is printed is tested and not proved.
 ghost use mathlib.Core.Path.{_≡_};
 ghost use Rattle.fields.specs.Refusal.{numbersOf};
 ghost use Rattle.fields.specs.Staged.{run};
 ghost use Rattle.nak.specs.Reading.{readingNak};
 ghost use Rattle.listing.specs.Listing.{isAccepted};
 use fields::Refusal;
+use header::PduHeader;
 use libc::STDOUT_FILENO;
 use nak::Nak;
 use nak::NakResult;
 use nak::requests::NextRequest;
 use nak::requests::RequestCursor;
+
+pub mod acks;
+pub mod eofs;
 
 // A word, up to two numbers, and the end of the line.
 fn print_line(word: &[u8], count: u8, first: u64, second: u64) {
@@ -59,11 +63,15 @@ fn print_requests(nak: Nak, buf: &[u8], count: usize) {
     }
 }
 
-fn print_nak(nak: Nak, buf: &[u8]) {
-    let header = nak.header;
-    io::write_all(STDOUT_FILENO, b"nak");
+// What a PDU is, and its source, sequence number and destination.
+fn print_ids(word: &[u8], header: PduHeader) {
+    io::write_all(STDOUT_FILENO, word);
     print_number(header.source.0);
     print_line(b"", 2, header.sequence.0.value, header.destination.0);
+}
+
+fn print_nak(nak: Nak, buf: &[u8]) {
+    print_ids(b"nak", nak.header);
     print_line(b"scope", 2, nak.start, nak.end);
     print_requests(nak, buf, nak.count);
     print_line(b"end", 1, nak.stop as u64, 0);

@@ -46,8 +46,8 @@ pub fn shape() -> [u8; 10] {
     b
 }
 
-// A NAK's length of data is worked out: the list's is passed over.
-pub fn nak_shape() -> [u8; 10] {
+// The length of a PDU's data is worked out where it is written: the list's is passed over.
+pub fn pdu_shape() -> [u8; 10] {
     let shape = shape();
     two();
     shape

@@ -2,13 +2,14 @@
 ghost use Prim.Native.Nat.{_≤_};
 use libc::STDOUT_FILENO;
 
+mod directives;
 mod expected;
 mod headers;
 mod list;
 mod naks;
 
 // The codes and the list's form stand in oracle/README.md.
-const MOST_CODE: u8 = 15;
+const MOST_CODE: u8 = 19;
 
 const MOST_NAMED: u64 = 20;
 
@@ -38,6 +39,10 @@ fn replayed(code: u8) -> bool {
         13 => naks::nak_compare(),
         14 => naks::nak_compare_normal(),
         15 => naks::nak_compare_large(),
+        16 => directives::eof_read(),
+        17 => directives::eof_write(),
+        18 => directives::ack_read(),
+        19 => directives::ack_write(),
         _ => false,
     }
 }

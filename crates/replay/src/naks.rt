@@ -21,7 +21,7 @@ pub fn nak_read() -> bool {
 }
 
 pub fn nak_write() -> bool {
-    let shape = list::nak_shape();
+    let shape = list::pdu_shape();
     let ids = list::ids();
     let start = list::eight();
     let end = list::eight();
@@ -36,7 +36,7 @@ pub fn nak_write() -> bool {
 }
 
 pub fn nak_write_normal() -> bool {
-    let shape = list::nak_shape();
+    let shape = list::pdu_shape();
     let ids = list::ids();
     let start = list::eight();
     let end = list::eight();
@@ -61,7 +61,7 @@ pub fn nak_write_normal() -> bool {
 }
 
 pub fn nak_write_large() -> bool {
-    let shape = list::nak_shape();
+    let shape = list::pdu_shape();
     let ids = list::ids();
     let start = list::eight();
     let end = list::eight();
@@ -86,7 +86,7 @@ pub fn nak_write_large() -> bool {
 }
 
 pub fn nak_most() -> bool {
-    let shape = list::nak_shape();
+    let shape = list::pdu_shape();
     let ids = list::ids();
     let packet = list::eight() as usize;
     let mut answer = [UNTOUCHED; ANSWER_LEN];
@@ -95,7 +95,7 @@ pub fn nak_most() -> bool {
 }
 
 pub fn nak_reserve() -> bool {
-    let shape = list::nak_shape();
+    let shape = list::pdu_shape();
     let ids = list::ids();
     let pairs = list::eight() as usize;
     let lent = list::four();
@@ -109,7 +109,7 @@ pub fn nak_reserve() -> bool {
 }
 
 pub fn nak_finish() -> bool {
-    let shape = list::nak_shape();
+    let shape = list::pdu_shape();
     let ids = list::ids();
     let start = list::eight();
     let end = list::eight();
@@ -125,7 +125,7 @@ pub fn nak_finish() -> bool {
 }
 
 pub fn nak_compare() -> bool {
-    let shape = list::nak_shape();
+    let shape = list::pdu_shape();
     let ids = list::ids();
     let start = list::eight();
     let end = list::eight();
@@ -137,7 +137,7 @@ pub fn nak_compare() -> bool {
 }
 
 pub fn nak_compare_normal() -> bool {
-    let shape = list::nak_shape();
+    let shape = list::pdu_shape();
     let ids = list::ids();
     let start = list::eight();
     let end = list::eight();
@@ -159,7 +159,7 @@ pub fn nak_compare_normal() -> bool {
 }
 
 pub fn nak_compare_large() -> bool {
-    let shape = list::nak_shape();
+    let shape = list::pdu_shape();
     let ids = list::ids();
     let start = list::eight();
     let end = list::eight();

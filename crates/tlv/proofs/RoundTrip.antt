@@ -90,6 +90,14 @@ only-reads-back form pre p f =
     let l : length (pre ++ X) ≡ length pre + (headBytes form + length (p .1)) = length-append pre X ∙ ap (λ (n : ℕ). length pre + n) (field-length form (p .0) (p .1)) in
     sym (the-only form (p .0) (pre ++ X) (length pre) (placed form (length pre) p) (sym r) refl (omega arith))
 
+-- a number that was written as a value comes back
+pub number-reads-back : (form : Form) (tag w v : ℕ) → v < 256 ^ w → numberAt (fieldBytes form tag (beBytes w v)) (headBytes form) w ≡ v
+unfolding fieldBytes
+number-reads-back form tag w v h =
+    let X = beBytes w v in
+    let head = headOf form tag (length X) in
+    ap (λ (x : List ℕ). numberAt (head ++ x) (headBytes form) w) (sym (append-nil X)) ∙ number-back head [] (headBytes form) w v (head-length form tag (length X)) h
+
 pub only-is-all : OnlyIsAll
 only-is-all form tag area at f b e =
     let o = is-only form tag area at f e in

@@ -9,28 +9,29 @@ pub type Said = Result<String, String>;
 /// What stands in lent numbers before a call, so that one that is left as it was is seen.
 pub const UNTOUCHED: u64 = 0xa5a5_a5a5_a5a5_a5a5;
 
-/// How many numbers each refusal of document 01's table returns, by its number.
-const VALUES: [usize; 16] = [0, 2, 1, 1, 1, 1, 2, 1, 1, 2, 2, 2, 1, 2, 2, 0];
-/// Not a directive: document 02's C-05, with no number.
-const NOT_A_DIRECTIVE: usize = 21;
+/// How many numbers a refusal returns: document 01's table, then what document 02's requests add.
+fn values(refusal: u64) -> Option<usize> {
+    match refusal {
+        2..=5 | 7 | 8 | 12 => Some(1),
+        1 | 6 | 9..=11 | 13 | 14 => Some(2),
+        15 => Some(0),
+        16 | 17 | 21 | 28 | 29 => Some(0),
+        _ => None,
+    }
+}
 
 /// The N numbers of an acceptance. Every number after the answer's own must be 0.
 pub fn ask<const N: usize>(call: impl FnOnce(&mut Answer)) -> Result<[u64; N], String> {
     let mut answer = [UNTOUCHED; ANSWER_LEN];
     call(&mut answer);
-    let number = answer[0] as usize;
-    let values = match number {
-        0 => N,
-        1..16 => VALUES[number],
-        NOT_A_DIRECTIVE => 0,
-        _ => return Err(stray(&answer)),
-    };
-    if answer[1 + values..].iter().any(|n| *n != 0) {
-        return Err(stray(&answer));
-    }
-    match number {
-        0 => Ok(std::array::from_fn(|k| answer[1 + k])),
-        _ => Err(show::refused(&answer[..1 + values])),
+    let accepted = answer[0] == 0;
+    let count = if accepted { Some(N) } else { values(answer[0]) };
+    match count {
+        Some(count) if answer[1 + count..].iter().all(|n| *n == 0) => match accepted {
+            true => Ok(std::array::from_fn(|k| answer[1 + k])),
+            false => Err(show::refused(&answer[..1 + count])),
+        },
+        _ => Err(stray(&answer)),
     }
 }
 
@@ -65,9 +66,17 @@ pub fn record_of(numbers: &[u64]) -> Result<Record, String> {
     })
 }
 
-/// A record as the library takes it. A width is one byte there, so a greater one is 'not made'.
+/// A number as the library takes it, in one byte; a greater one is 'not made'.
+pub fn in_byte(number: u64) -> Result<u8, String> {
+    u8::try_from(number).map_err(|_| NOT_MADE.to_string())
+}
+
+/// The answer where the library's types hold no such value.
+pub const NOT_MADE: &str = "not made";
+
+/// A record as the library takes it, with widths of one byte each.
 pub fn header_of(r: &Record) -> Result<Header, String> {
-    let width = |f: &Field| u8::try_from(f.width).map_err(|_| "not made".to_string());
+    let width = |f: &Field| in_byte(f.width);
     Ok(Header {
         shape: [
             r.pdu_type,

@@ -11,7 +11,7 @@ pub type Answer = [u64; ANSWER_LEN];
 
 /// A header without its length: `shape` has seven flags and three widths, `ids` the three values,
 /// both in the order source, sequence number, destination.
-#[derive(Clone, Copy, Debug, PartialEq, Eq)]
+#[derive(Clone, Copy, Debug, Default, PartialEq, Eq)]
 pub struct Header {
     pub shape: [u8; 10],
     pub ids: [u64; 3],
@@ -19,6 +19,23 @@ pub struct Header {
 
 /// Start and end of scope.
 pub type Scope = (u64, u64);
+
+/// What an EOF says beside its header; width and value of the fault location, where there is one.
+#[derive(Default)]
+pub struct Eof {
+    pub condition: u8,
+    pub file_checksum: u32,
+    pub file_size: u64,
+    pub fault: Option<(u8, u64)>,
+}
+
+/// What an ACK says beside its header.
+#[derive(Default)]
+pub struct Ack {
+    pub directive: u8,
+    pub condition: u8,
+    pub status: u8,
+}
 
 mod raw {
     use super::Answer;
@@ -46,6 +63,10 @@ mod raw {
         pub fn cfdp_nak_compare(bytes: *const u8, len: usize, shape: Shape, ids: Ids, start: u64, end: u64, answer: Into);
         pub fn cfdp_nak_compare_normal(bytes: *const u8, len: usize, shape: Shape, ids: Ids, start: u64, end: u64, numbers: *const u32, count: usize, answer: Into);
         pub fn cfdp_nak_compare_large(bytes: *const u8, len: usize, shape: Shape, ids: Ids, start: u64, end: u64, numbers: *const u64, count: usize, answer: Into);
+        pub fn cfdp_eof_read(bytes: *const u8, len: usize, answer: Into);
+        pub fn cfdp_eof_write(shape: Shape, ids: Ids, condition: u8, file_checksum: u32, file_size: u64, fault: bool, fault_width: u8, fault_value: u64, buf: *mut u8, len: usize, answer: Into);
+        pub fn cfdp_ack_read(bytes: *const u8, len: usize, answer: Into);
+        pub fn cfdp_ack_write(shape: Shape, ids: Ids, directive: u8, condition: u8, status: u8, buf: *mut u8, len: usize, answer: Into);
     }
 }
 
@@ -185,4 +206,46 @@ pub fn nak_compare_large(
     let (at, len) = (bytes.as_ptr(), bytes.len());
     let (from, count) = (numbers.as_ptr(), numbers.len());
     unsafe { raw::cfdp_nak_compare_large(at, len, shape, ids, start, end, from, count, answer) }
+}
+
+/// REC, condition code, file checksum, file size, whether there is a fault location, its width, its
+/// value, E
+pub fn eof_read(bytes: &[u8], answer: &mut Answer) {
+    unsafe { raw::cfdp_eof_read(bytes.as_ptr(), bytes.len(), answer) }
+}
+
+/// REC, written length
+pub fn eof_write(header: &Header, eof: &Eof, buf: &mut [u8], answer: &mut Answer) {
+    let Header { shape, ids } = header;
+    let &Eof {
+        condition,
+        file_checksum: sum,
+        file_size: size,
+        fault,
+    } = eof;
+    let there = fault.is_some();
+    let (width, value) = fault.unwrap_or((0, 0));
+    let (at, len) = (buf.as_mut_ptr(), buf.len());
+    unsafe {
+        raw::cfdp_eof_write(
+            shape, ids, condition, sum, size, there, width, value, at, len, answer,
+        )
+    }
+}
+
+/// REC, acknowledged directive, condition code, transaction status, E
+pub fn ack_read(bytes: &[u8], answer: &mut Answer) {
+    unsafe { raw::cfdp_ack_read(bytes.as_ptr(), bytes.len(), answer) }
+}
+
+/// REC, written length
+pub fn ack_write(header: &Header, ack: &Ack, buf: &mut [u8], answer: &mut Answer) {
+    let Header { shape, ids } = header;
+    let &Ack {
+        directive: of,
+        condition,
+        status,
+    } = ack;
+    let (at, len) = (buf.as_mut_ptr(), buf.len());
+    unsafe { raw::cfdp_ack_write(shape, ids, of, condition, status, at, len, answer) }
 }

@@ -1,5 +1,6 @@
 //! The port's library in the words of the line protocol: `ffi` calls it, `answer` takes its answers
-//! apart, and `base` has one function for each command of the base.
+//! apart, `base` has one function for each command of the base, and `later` one for each of the others.
 pub mod answer;
 pub mod base;
 pub mod ffi;
+pub mod later;

@@ -1,7 +1,7 @@
 //! The port's driver: the line protocol that the top of tools/src/bin/oracle.rs sets out, answered by
 //! the port's library.
 use port::answer::Said;
-use port::base;
+use port::{base, later};
 use std::io::Result;
 use tools::serve::serve;
 use tools::{Command, show};
@@ -26,6 +26,10 @@ fn perform(command: Command) -> String {
             lending(buf, |b| base::finish(&record, count, &scope, b))
         }
         Compare(bytes, nak) => asked(base::compare(&bytes, &nak)),
+        Eof(bytes) => asked(later::eof(&bytes)),
+        Ack(bytes) => asked(later::ack(&bytes)),
+        WriteEof(record, eof, buf) => lending(buf, |b| later::write_eof(&record, &eof, b)),
+        WriteAck(record, ack, buf) => lending(buf, |b| later::write_ack(&record, &ack, b)),
         _ => show::LACKING.to_string(),
     }
 }

@@ -33,10 +33,10 @@ pub struct Nak {
     pub list: List,
 }
 
-/// What an EOF says beside its header.
+/// What an EOF says beside its header. A code may be above all that a byte holds.
 #[derive(Clone, Debug, PartialEq, Eq)]
 pub struct Eof {
-    pub code: u8,
+    pub code: u64,
     pub sum: u32,
     pub size: u64,
     pub fault: Option<Field>,
@@ -45,9 +45,9 @@ pub struct Eof {
 /// What an ACK says beside its header.
 #[derive(Clone, Debug, PartialEq, Eq)]
 pub struct Ack {
-    pub directive: u8,
-    pub code: u8,
-    pub status: u8,
+    pub directive: u64,
+    pub code: u64,
+    pub status: u64,
 }
 
 /// What a Metadata PDU says beside its header.
@@ -67,6 +67,15 @@ impl Command {
         let command = command(&mut words)?;
         words.end()?;
         Ok(command)
+    }
+
+    /// Whether a request of document 02 brought it.
+    pub fn is_later(&self) -> bool {
+        use Command::*;
+        matches!(
+            self,
+            Eof(_) | Ack(_) | Metadata(_) | WriteEof(..) | WriteAck(..) | WriteMetadata(..)
+        )
     }
 }
 

@@ -1,5 +1,6 @@
 //! The two drivers' answers to one command held against each other, and the count of it.
-use crate::{Command, refusal, show};
+use crate::{Command, domain, refusal, show};
+use std::collections::BTreeMap;
 use std::fmt::{Display, Formatter, Result as Shown};
 
 /// What two answers to one command are to each other.
@@ -23,13 +24,14 @@ pub fn judge(command: &str, oracle: &str, port: &str) -> Verdict {
     if port.ends_with(show::LACKING) {
         return Verdict::Lacking;
     }
-    let (word, rust) = oracle.split_once(' ').unwrap_or((oracle, ""));
-    let ours = port.strip_prefix(word).and_then(|p| p.strip_prefix(' '));
-    match word {
-        "out" => same_or(ours.is_some(), Verdict::Outside),
-        "in" => inside(command, rust, ours.unwrap_or("")),
-        // What the oracle calls bad is a fault of the list, and must not pass for compared.
-        _ => Verdict::Differ,
+    // What the oracle calls bad is a fault of the list, and must not pass for compared.
+    let Ok(command) = Command::parse(command) else {
+        return Verdict::Differ;
+    };
+    match parts(&command, oracle, port) {
+        Some((true, rust, ours)) => inside(&command, rust, ours),
+        Some((false, _, ours)) => same_or(is_answer(ours), Verdict::Outside),
+        None => Verdict::Differ,
     }
 }
 
@@ -37,7 +39,32 @@ fn same_or(good: bool, verdict: Verdict) -> Verdict {
     if good { verdict } else { Verdict::Differ }
 }
 
-fn inside(command: &str, rust: &str, port: &str) -> Verdict {
+/// Whether the answers are compared, and both without the word for it. In the base both must have that
+/// word; the answers to later commands have none.
+fn parts<'a>(
+    command: &Command,
+    oracle: &'a str,
+    port: &'a str,
+) -> Option<(bool, &'a str, &'a str)> {
+    if command.is_later() {
+        return Some((domain::compared(command)?, oracle, port));
+    }
+    let (word, rust) = oracle.split_once(' ').unwrap_or((oracle, ""));
+    let inside = match word {
+        "in" => true,
+        "out" => false,
+        _ => return None,
+    };
+    Some((inside, rust, port.strip_prefix(word)?.strip_prefix(' ')?))
+}
+
+/// Outside the domain an answer must still be one.
+fn is_answer(text: &str) -> bool {
+    let kinds = ["ok ", "refused ", "not made"];
+    kinds.iter().any(|kind| text.starts_with(kind))
+}
+
+fn inside(command: &Command, rust: &str, port: &str) -> Verdict {
     if rust.starts_with("ok") {
         return same_or(rust == port, Verdict::Same(0));
     }
@@ -45,8 +72,7 @@ fn inside(command: &str, rust: &str, port: &str) -> Verdict {
         None => (rust, None),
         Some((error, buf)) => (error, Some(buf)),
     };
-    let length = Command::parse(command).map_or(0, |c| refusal::length_read(&c));
-    let Some(numbers) = refusal::of_error(error, length) else {
+    let Some(numbers) = refusal::of_error(command, error) else {
         return Verdict::Differ;
     };
     let mut expected = show::refused(&numbers);
@@ -60,8 +86,8 @@ fn inside(command: &str, rust: &str, port: &str) -> Verdict {
 /// How many commands came to each verdict.
 #[derive(Clone, Debug, Default, PartialEq, Eq)]
 pub struct Count {
-    /// By document 01's number, accepted first.
-    pub same: [u64; 16],
+    /// By the documents' numbers, accepted as 0.
+    pub same: BTreeMap<usize, u64>,
     pub differ: u64,
     pub outside: u64,
     pub lacking: u64,
@@ -70,7 +96,7 @@ pub struct Count {
 impl Count {
     pub fn add(&mut self, verdict: Verdict) {
         match verdict {
-            Verdict::Same(number) => self.same[number] += 1,
+            Verdict::Same(number) => *self.same.entry(number).or_default() += 1,
             Verdict::Differ => self.differ += 1,
             Verdict::Outside => self.outside += 1,
             Verdict::Lacking => self.lacking += 1,
@@ -80,18 +106,16 @@ impl Count {
 
     /// Differing ones are compared too.
     pub fn compared(&self) -> u64 {
-        self.same.iter().sum::<u64>() + self.differ
+        self.same.values().sum::<u64>() + self.differ
     }
 }
 
 impl Display for Count {
     fn fmt(&self, f: &mut Formatter<'_>) -> Shown {
         let commands = self.compared() + self.outside + self.lacking;
-        write!(f, "the same: accepted {}", self.same[0])?;
-        for (number, count) in self.same.iter().enumerate().skip(1) {
-            if *count > 0 {
-                write!(f, ", refused {number}: {count}")?;
-            }
+        write!(f, "the same: accepted {}", self.same.get(&0).unwrap_or(&0))?;
+        for (number, count) in self.same.range(1..) {
+            write!(f, ", refused {number}: {count}")?;
         }
         write!(f, "\n{commands} commands: {} compared", self.compared())?;
         write!(f, ", {} outside the domain", self.outside)?;
@@ -101,6 +125,9 @@ impl Display for Count {
         write!(f, ", {} differing", self.differ)
     }
 }
+
+#[cfg(test)]
+mod later;
 
 #[cfg(test)]
 mod tests {
@@ -168,7 +195,7 @@ mod tests {
         assert_eq!(judge(READ, "out panic", "out refused 6 9 16"), Outside);
         assert_eq!(judge(READ, "out panic", "in refused 6 9 16"), Differ);
         assert_eq!(judge("# text", "# text", "# text"), Copied);
-        assert_eq!(judge("eof -", "err X", LACKING), Lacking);
+        assert_eq!(judge("wsized -", "err X", LACKING), Lacking);
         assert_eq!(judge("eof -", "err X", "err X"), Differ);
         assert_eq!(judge("eof -", "err X", "bad bytes"), Differ);
     }

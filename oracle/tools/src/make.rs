@@ -1,5 +1,5 @@
 //! What the makers of command lists share: numbers by chance, records, and PDUs as bytes.
-use crate::command::Nak;
+use crate::command::{Ack, Eof, Nak};
 use crate::domain::checksum;
 use crate::{Field, List, Record, Scope};
 
@@ -82,6 +82,27 @@ impl Random {
             list,
         }
     }
+
+    /// A good EOF but for its code, with a file size that the record's flag has room for.
+    pub fn eof(&mut self, record: &Record) -> Eof {
+        let width = self.one_of(&WIDTHS);
+        let fault = self.field(width);
+        Eof {
+            code: self.below(16),
+            sum: self.edge(32) as u32,
+            size: self.edge(8 * size_len(record) as u32),
+            fault: (self.bit() == 1).then_some(fault),
+        }
+    }
+
+    /// A good ACK but for its code.
+    pub fn ack(&mut self) -> Ack {
+        Ack {
+            directive: self.one_of(&[4, 5]),
+            code: self.below(16),
+            status: self.below(4),
+        }
+    }
 }
 
 pub const WIDTHS: [u64; 4] = [1, 2, 4, 8];
@@ -94,6 +115,11 @@ pub fn header_len(record: &Record) -> usize {
 /// F
 pub fn pair_size(record: &Record) -> usize {
     if record.large == 1 { 16 } else { 8 }
+}
+
+/// The bytes of a file size.
+pub fn size_len(record: &Record) -> usize {
+    pair_size(record) / 2
 }
 
 /// P of a NAK of that many pairs.
@@ -142,6 +168,34 @@ pub fn nak_data(nak: &Nak) -> Vec<u8> {
     let numbers = scope.iter().chain(&pairs);
     let bytes = numbers.flat_map(|n| n.to_be_bytes().into_iter().skip(from));
     std::iter::once(8).chain(bytes).collect()
+}
+
+/// What follows the header in an EOF, less any checksum.
+pub fn eof_data(record: &Record, eof: &Eof) -> Vec<u8> {
+    let mut data = vec![4, (eof.code << 4) as u8];
+    data.extend(eof.sum.to_be_bytes());
+    data.extend(&eof.size.to_be_bytes()[8 - size_len(record)..]);
+    if let Some(fault) = eof.fault {
+        data.extend([6, fault.width as u8]);
+        data.extend(&fault.value.to_be_bytes()[8 - fault.width as usize..]);
+    }
+    data
+}
+
+/// What follows the header in an ACK, less any checksum.
+pub fn ack_data(ack: &Ack) -> Vec<u8> {
+    let subtype = u8::from(ack.directive == 5);
+    let of = (ack.directive << 4) as u8 | subtype;
+    vec![6, of, (ack.code << 4 | ack.status) as u8]
+}
+
+/// The record's direction as the writer of such an ACK sets it.
+pub fn ack_record(record: Record, ack: &Ack) -> Record {
+    let direction = u8::from(ack.directive == 4);
+    Record {
+        direction,
+        ..record
+    }
 }
 
 /// Puts a good checksum at the end of the PDU that the buffer declares, if it holds one.

@@ -1,6 +1,6 @@
 //! The records of the replay list: commands with the Rust's answers, for a program that has no text.
 //! README.md sets out their form, under 'The replay list'.
-use crate::command::Nak;
+use crate::command::{Ack, Eof, Nak};
 use crate::{Command, List, Record, Scope, parse, refusal};
 
 /// What the Rust answers to a command inside the domain, in the words of the port's library.
@@ -22,7 +22,7 @@ impl Expected {
         };
         if !said.starts_with("ok") {
             return Some(Expected {
-                answer: refusal::of_error(said, refusal::length_read(command))?,
+                answer: refusal::of_error(command, said)?,
                 buf,
                 requests: Vec::new(),
             });
@@ -60,14 +60,34 @@ fn accepted(command: &Command, said: &str, mut shown: Vec<u64>) -> Vec<u64> {
             shown.drain(14..17);
         }
         Command::Compare(..) => shown.push(u64::from(said == "ok equal")),
+        Command::Eof(_) => {
+            shown.extend(fault_shown(said));
+            shown.push(stop(&shown));
+        }
+        Command::Ack(_) => shown.push(stop(&shown)),
         _ => (),
     }
     shown.insert(0, 0);
     shown
 }
 
-/// The record of a command; `None` for one of the later requests, and for a lent buffer that is not
-/// filled with one byte.
+/// Whether an EOF's answer shows a fault location, its width and its value.
+fn fault_shown(said: &str) -> [u64; 3] {
+    let (_, fault) = said.rsplit_once(' ').unwrap_or(("", said));
+    match fault.split_once(':').map(|(w, v)| (w.parse(), v.parse())) {
+        Some((Ok(width), Ok(value))) => [1, width, value],
+        _ => [0, 0, 0],
+    }
+}
+
+/// E of a header that an answer shows.
+fn stop(shown: &[u64]) -> u64 {
+    let [crc, length, entity, sequence] = [shown[3], shown[7], shown[8], shown[10]];
+    4 + 2 * entity + sequence + length - 2 * crc
+}
+
+/// The record of a command; `None` for one that the port lacks, and for a lent buffer that is not filled
+/// with one byte.
 pub fn encoded(command: &Command, expected: &Expected) -> Option<Vec<u8>> {
     use Command::*;
     let mut to = Encoder(Vec::new());
@@ -89,6 +109,10 @@ pub fn encoded(command: &Command, expected: &Expected) -> Option<Vec<u8>> {
             to.number(*pairs as u64, 8).buffer(buf)?
         }
         Compare(bytes, nak) => to.nak(13, nak, Some(bytes)),
+        Eof(bytes) => to.code(16).bytes(bytes),
+        WriteEof(record, eof, buf) => to.code(17).header(record).eof(eof).buffer(buf)?,
+        Ack(bytes) => to.code(18).bytes(bytes),
+        WriteAck(record, ack, buf) => to.code(19).header(record).ack(ack).buffer(buf)?,
         _ => return None,
     };
     encoder.expected(command, expected);
@@ -121,6 +145,19 @@ impl Encoder {
 
     fn scope(&mut self, scope: &Scope) -> &mut Self {
         self.number(scope.start, 8).number(scope.end, 8)
+    }
+
+    fn eof(&mut self, eof: &Eof) -> &mut Self {
+        self.number(eof.code, 1);
+        self.number(eof.sum.into(), 4).number(eof.size, 8);
+        let there = u64::from(eof.fault.is_some());
+        let (width, value) = eof.fault.map_or((0, 0), |f| (f.width, f.value));
+        self.number(there, 1).number(width, 1).number(value, 8)
+    }
+
+    fn ack(&mut self, ack: &Ack) -> &mut Self {
+        self.number(ack.directive, 1);
+        self.number(ack.code, 1).number(ack.status, 1)
     }
 
     fn bytes(&mut self, bytes: &[u8]) -> &mut Self {
@@ -186,6 +223,7 @@ pub fn lent(command: &Command) -> &[u8] {
     use Command::*;
     match command {
         WriteHeader(_, buf) | Write(_, buf) | Reserve(_, _, buf) | Finish(_, _, _, buf) => buf,
+        WriteEof(_, _, buf) | WriteAck(_, _, buf) => buf,
         _ => &[],
     }
 }

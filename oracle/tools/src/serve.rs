@@ -23,9 +23,10 @@ pub fn serve(mut perform: impl FnMut(Command) -> String) -> Result<()> {
     out.flush()
 }
 
-/// The word that says whether document 01 compares the two sides here.
+/// The word that says whether document 01 compares the two sides here; none for a later command.
 fn front(command: &Command) -> &'static [u8] {
     match domain::compared(command) {
+        _ if command.is_later() => b"",
         Some(true) => b"in ",
         Some(false) => b"out ",
         None => b"",

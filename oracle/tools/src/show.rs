@@ -67,6 +67,23 @@ impl Display for Nak {
     }
 }
 
+/// CODE SUM SIZE FAULT
+impl Display for Eof {
+    fn fmt(&self, f: &mut Formatter<'_>) -> Shown {
+        let Eof {
+            code, sum, size, ..
+        } = self;
+        write!(f, "{code} {sum} {size} {}", fault(&self.fault))
+    }
+}
+
+/// DIRECTIVE CODE STATUS
+impl Display for Ack {
+    fn fmt(&self, f: &mut Formatter<'_>) -> Shown {
+        write!(f, "{} {} {}", self.directive, self.code, self.status)
+    }
+}
+
 /// FAULT
 pub fn fault(location: &Option<Field>) -> String {
     match location {

@@ -2,7 +2,7 @@
 //! Names each record that differs, by its place in the file; the last line is 'N replayed, M differ'.
 //! Ends with 1 if any differ, or if the list is not of its form.
 use port::answer::UNTOUCHED;
-use port::ffi::{self, ANSWER_LEN, Answer, Header};
+use port::ffi::{self, ANSWER_LEN, Ack, Answer, Eof, Header};
 use std::io::{Read, Result, stdin};
 use std::process::ExitCode;
 
@@ -47,16 +47,45 @@ impl<'a> Parts<'a> {
     fn numbers(&mut self, count: u64, size: usize) -> Vec<u64> {
         (0..count).map(|_| self.number(size)).collect()
     }
+
+    /// A count of 1 byte, then as many numbers; the others are 0.
+    fn answer(&mut self) -> Vec<u64> {
+        let count = self.number(1);
+        let mut numbers = self.numbers(count, 8);
+        numbers.resize(ANSWER_LEN, 0);
+        numbers
+    }
+
+    fn eof(&mut self) -> Eof {
+        Eof {
+            condition: self.number(1) as u8,
+            file_checksum: self.number(4) as u32,
+            file_size: self.number(8),
+            fault: match (self.number(1), self.number(1), self.number(8)) {
+                (0, ..) => None,
+                (_, width, value) => Some((width as u8, value)),
+            },
+        }
+    }
+
+    fn ack(&mut self) -> Ack {
+        Ack {
+            directive: self.number(1) as u8,
+            condition: self.number(1) as u8,
+            status: self.number(1) as u8,
+        }
+    }
 }
 
 /// What goes into a call. What a command does not take stays empty.
 #[derive(Default)]
 struct Inputs<'a> {
-    shape: [u8; 10],
+    header: Header,
     length: u16,
-    ids: [u64; 3],
     scope: (u64, u64),
     size: usize,
+    eof: Eof,
+    ack: Ack,
     bytes: &'a [u8],
     numbers: Vec<u64>,
     buf: Vec<u8>,
@@ -65,10 +94,10 @@ struct Inputs<'a> {
 
 fn inputs<'a>(code: u64, from: &mut Parts<'a>) -> Inputs<'a> {
     let mut to = Inputs::default();
-    if matches!(code, 3..=6 | 8..=15) {
-        to.shape.copy_from_slice(from.bytes(10));
+    if matches!(code, 3..=6 | 8..=15 | 17 | 19) {
+        to.header.shape.copy_from_slice(from.bytes(10));
         to.length = from.number(2) as u16;
-        to.ids = [from.number(8), from.number(8), from.number(8)];
+        to.header.ids = [from.number(8), from.number(8), from.number(8)];
     }
     if matches!(code, 8..=10 | 12..=15) {
         to.scope = (from.number(8), from.number(8));
@@ -76,7 +105,12 @@ fn inputs<'a>(code: u64, from: &mut Parts<'a>) -> Inputs<'a> {
     if matches!(code, 6 | 11 | 12) {
         to.size = from.number(8) as usize;
     }
-    if matches!(code, 1 | 2 | 4 | 7 | 13..=15) {
+    match code {
+        17 => to.eof = from.eof(),
+        19 => to.ack = from.ack(),
+        _ => (),
+    }
+    if matches!(code, 1 | 2 | 4 | 7 | 13..=16 | 18) {
         to.bytes = from.counted();
     }
     if matches!(code, 9 | 10 | 14 | 15) {
@@ -84,7 +118,7 @@ fn inputs<'a>(code: u64, from: &mut Parts<'a>) -> Inputs<'a> {
         let count = from.number(4);
         to.numbers = from.numbers(count, size);
     }
-    if matches!(code, 5 | 8..=12) {
+    if lends(code) {
         let length = from.number(4) as usize;
         to.fill = from.number(1) as u8;
         to.buf = vec![to.fill; length];
@@ -92,16 +126,18 @@ fn inputs<'a>(code: u64, from: &mut Parts<'a>) -> Inputs<'a> {
     to
 }
 
+/// Whether a call of that code is lent a buffer.
+fn lends(code: u64) -> bool {
+    matches!(code, 5 | 8..=12 | 17 | 19)
+}
+
 /// Whether the next record's call gives what the record says.
 fn replayed(from: &mut Parts) -> bool {
     let code = from.number(1);
     let mut inputs = inputs(code, from);
     let answer = call(code, &mut inputs);
-    let count = from.number(1);
-    let mut expected = from.numbers(count, 8);
-    expected.resize(ANSWER_LEN, 0);
-    let mut same = expected == answer;
-    if matches!(code, 5 | 8..=12) {
+    let mut same = from.answer() == answer;
+    if lends(code) {
         let mut after = from.counted().to_vec();
         after.resize(inputs.buf.len(), inputs.fill);
         same &= after == inputs.buf;
@@ -115,19 +151,16 @@ fn replayed(from: &mut Parts) -> bool {
 
 fn call(code: u64, inputs: &mut Inputs) -> Answer {
     let Inputs {
+        header,
         length,
         scope,
         size,
         bytes,
+        numbers: large,
         buf,
         ..
     } = inputs;
     let (length, scope, size) = (*length, *scope, *size);
-    let header = &Header {
-        shape: inputs.shape,
-        ids: inputs.ids,
-    };
-    let large = &inputs.numbers;
     let normal: &Vec<u32> = &large.iter().map(|n| *n as u32).collect();
     let mut answer = [UNTOUCHED; ANSWER_LEN];
     let a = &mut answer;
@@ -150,9 +183,21 @@ fn call(code: u64, inputs: &mut Inputs) -> Answer {
         13 => ffi::nak_compare(bytes, header, scope, a),
         14 => ffi::nak_compare_normal(bytes, header, scope, normal, a),
         15 => ffi::nak_compare_large(bytes, header, scope, large, a),
-        _ => (),
+        _ => call_later(code, inputs, a),
     }
     answer
+}
+
+/// The calls for what document 02's requests brought.
+fn call_later(code: u64, inputs: &mut Inputs, a: &mut Answer) {
+    let (header, bytes, buf) = (&inputs.header, inputs.bytes, &mut inputs.buf);
+    match code {
+        16 => ffi::eof_read(bytes, a),
+        17 => ffi::eof_write(header, &inputs.eof, buf, a),
+        18 => ffi::ack_read(bytes, a),
+        19 => ffi::ack_write(header, &inputs.ack, buf, a),
+        _ => (),
+    }
 }
 
 /// The pairs of an accepted reading, start and end by turns; none of a refused one.

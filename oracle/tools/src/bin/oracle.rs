@@ -54,23 +54,23 @@
 //!                                                    MetadataPduCreator::new and write_to_slice
 //! ```
 //!
-//! NAME, NAME (source, destination) and OPTIONS are written as BYTES are. The port's driver lacks these
-//! commands, and wsized: it answers 'bad' and the reason.
+//! NAME, NAME (source, destination) and OPTIONS are written as BYTES are. The port's driver lacks
+//! metadata, wmetadata and wsized: it answers 'bad' and the reason.
 //!
 //! # Answers
 //!
 //! The answer to a command of the base begins with 'in' or 'out': whether document 01 compares port
-//! and Rust on this command, judged from the command alone (src/domain.rs). The answer to a later
+//! and Rust on this command, judged from the command alone (src/domain). The answer to a later
 //! command, and to wsized, has no such word. Then comes one of:
 //!
 //! ```text
 //! ok ...                 accepted; the forms are below
 //! err NAME NUMBERS       the Rust's error: its name, its numbers as it holds them; for a directive
 //!                        also 'expected' and the one expected
-//! refused NO NUMBERS     the port's driver only: document 01's number and the numbers it returns
+//! refused NO NUMBERS     the port's driver only: the documents' number and the numbers it returns
 //! panic                  the Rust panicked
-//! not made               this side's types hold no such value: in the Rust an odd list or a reserved
-//!                        code, in the port a width above 255
+//! not made               this side's types hold no such value: in the Rust an odd list or a code that
+//!                        its list lacks, in the port a width or a code above 255 or a status above 3
 //! stray NUMBERS          the port's driver only: its library's numbers are of no form that the
 //!                        library's header file gives; always a fault
 //! err forms differ       the Rust's three checksums, or the port's two walks over the requests, do

@@ -1,9 +1,9 @@
-//! Writes the replay list to standard output: some thousands of commands inside document 01's domain,
-//! each with the Rust's answer, in the form that README.md sets out. It is the same every time.
+//! Writes the replay list to standard output: some thousands of commands inside the domain, each with
+//! the Rust's answer, in the form that README.md sets out. It is the same every time.
 //!
-//! Document 01's cases come first. Then, of a list by chance, those that add something: an answer of
-//! a command with widths, a flag, a length, a code or a count of pairs that was not yet there often
-//! enough. Two records have as many pairs as fit.
+//! Document 01's cases come first. Then, of lists by chance, those that add something: an answer of a
+//! command with widths, a flag, a length, a code or a count of pairs that was not yet there often enough.
+//! Two records have as many pairs as fit.
 use std::collections::HashMap;
 use std::io::{Result, Write, stderr, stdout};
 use tools::replay::{Expected, encoded, lent};
@@ -21,6 +21,7 @@ fn main() -> Result<()> {
     std::panic::set_hook(Box::new(|_| ()));
     let mut list = Vec::new();
     lists::base(SEED, &mut list)?;
+    lists::eof_and_ack(SEED, &mut list)?;
     let list = String::from_utf8(list).expect("a list is text");
     let mut chosen = Chosen::default();
     CASES.lines().for_each(|line| chosen.consider(line, true));
@@ -57,7 +58,7 @@ impl Chosen {
         };
         let things = match record.len() {
             0..=SMALL => things(&command, &expected.answer, record[0]),
-            _ => most_pairs(&expected.answer, record[0]),
+            _ => most(&expected.answer, record[0]),
         };
         let most = match (record[0], expected.answer[0]) {
             // Each length of a checksum and each unknown code is a thing by itself.
@@ -77,7 +78,7 @@ impl Chosen {
 }
 
 /// What a record covers that is too large to be taken for anything else.
-fn most_pairs(answer: &[u64], code: u8) -> Vec<String> {
+fn most(answer: &[u64], code: u8) -> Vec<String> {
     match (code, answer) {
         (9, [0, .., (65_536..)]) => vec!["8,190 pairs written".to_string()],
         (7, [0, .., 4094]) => vec!["4,094 pairs read".to_string()],
@@ -94,13 +95,63 @@ fn things(command: &Command, answer: &[u64], code: u8) -> Vec<String> {
         .collect();
     match answer {
         // Codes, versions and widths; the other numbers of a refusal are lengths.
+        [7, number] if code >= 16 => things.push(format!("{of} number {}", number.min(&14))),
         [2 | 3 | 4 | 7 | 8 | 13, number, ..] => things.push(format!("{of} number {number}")),
         _ => things.push(format!("{of} widths {widths:x}")),
     }
     let (crc, large) = (first >> 1 & 1, first & 1);
     let amounts = amounts(command, answer);
     things.push(format!("{of} crc {crc} large {large} {amounts}"));
+    // The others are refused before a code is judged.
+    if let [0 | 16 | 17 | 28, ..] = answer {
+        let codes = codes(command).into_iter();
+        things.extend(codes.map(|(what, code)| format!("{of} {what} {code}")));
+    }
     things
+}
+
+/// The codes of an EOF and of an ACK, and the fault location's type and width.
+fn codes(command: &Command) -> Vec<(&'static str, u64)> {
+    use Command::*;
+    match command {
+        Eof(bytes) => eof_codes(data(bytes), bytes[0] & 1 == 1),
+        Ack(bytes) => {
+            let [of, code] = [1, 2].map(|k| at(data(bytes), k));
+            let spare = [("subtype", of & 15), ("status", code & 15)];
+            [[("of", of >> 4), ("code", code >> 4)], spare].concat()
+        }
+        WriteEof(_, eof, _) => {
+            let width = eof.fault.map_or(0, |fault| fault.width);
+            vec![("code", eof.code), ("width", width)]
+        }
+        WriteAck(_, ack, _) => {
+            let codes = [("of", ack.directive), ("code", ack.code)];
+            [&codes[..], &[("status", ack.status)]].concat()
+        }
+        _ => Vec::new(),
+    }
+}
+
+fn eof_codes(data: &[u8], large: bool) -> Vec<(&'static str, u64)> {
+    let field = &data[if large { 14 } else { 10 }..];
+    let [kind, width] = [at(field, 0), at(field, 1)];
+    vec![
+        ("code", at(data, 1) >> 4),
+        ("type", u64::from(kind == 6)),
+        ("width", width.min(10)),
+    ]
+}
+
+/// A byte of the data, 0 where there is none.
+fn at(data: &[u8], place: usize) -> u64 {
+    data.get(place).map_or(0, |byte| u64::from(*byte))
+}
+
+/// What lies behind a header whose widths are there.
+fn data(bytes: &[u8]) -> &[u8] {
+    let widths = bytes.get(3).copied().unwrap_or(0);
+    let header = 7 + 2 * usize::from(widths >> 4 & 7) + usize::from(widths & 7);
+    bytes.get(header..).unwrap_or(&[])
 }
 
 /// The seven flags, and both widths in one byte.
@@ -108,7 +159,7 @@ fn shape(command: &Command) -> (u8, u8) {
     use Command::*;
     match command {
         Crc(_) => (0, 0),
-        Header(bytes) | Read(bytes) => {
+        Header(bytes) | Read(bytes) | Eof(bytes) | Ack(bytes) => {
             let at = |k: usize| bytes.get(k).copied().unwrap_or(0);
             let flags = at(3) >> 3 & 1 | at(3) >> 6 & 2;
             (at(0) & 31 | flags << 5, at(3) & 0x77)
@@ -116,6 +167,7 @@ fn shape(command: &Command) -> (u8, u8) {
         Build(r) | Verify(r, _) | WriteHeader(r, _) | Max(r, _) => record_shape(r),
         Reserve(r, ..) | Finish(r, ..) => record_shape(r),
         Write(nak, _) | Compare(_, nak) => record_shape(&nak.record),
+        WriteEof(r, ..) | WriteAck(r, ..) => record_shape(r),
         _ => (0, 0),
     }
 }

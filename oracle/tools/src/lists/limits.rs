@@ -5,7 +5,7 @@ use crate::{Field, List, Record};
 use std::io::{Result, Write};
 
 /// Every width that a header can say, the least and the greatest beside, and a byte's greatest.
-const ANY_WIDTH: [u64; 12] = [0, 1, 2, 3, 4, 5, 6, 7, 8, 9, 16, 255];
+pub const ANY_WIDTH: [u64; 12] = [0, 1, 2, 3, 4, 5, 6, 7, 8, 9, 16, 255];
 
 /// Document 01's N, which every comparison accepts first.
 const N: &str = "280011000102030800000000000003e800000064000000c8";

@@ -1,5 +1,8 @@
 //! Lists of commands for both drivers, the same for the same seed.
+mod ack;
 mod boundary;
+mod directive;
+mod eof;
 mod exhaustive;
 mod later;
 mod limits;
@@ -40,6 +43,16 @@ pub fn base(seed: u64, out: &mut impl Write) -> Result<()> {
     limits::widths(random, out)?;
     limits::pairs(random, out)?;
     limits::odd(random, out)
+}
+
+/// EOFs and ACKs (document 02, C-01), which port and Rust are both asked.
+pub fn eof_and_ack(seed: u64, out: &mut impl Write) -> Result<()> {
+    let random = &mut Random(seed);
+    reading::directives(random, out, &["eof", "ack"])?;
+    eof::reads(random, out)?;
+    eof::writes(random, out)?;
+    ack::reads(random, out)?;
+    ack::writes(random, out)
 }
 
 /// Checksums, and what a reader sees first; `readers` are the commands that are asked each directive.

@@ -13,14 +13,15 @@ use spacepackets::cfdp::tlv::EntityIdTlv;
 use spacepackets::cfdp::{ChecksumType, ConditionCode, TransactionStatus};
 
 /// A code as the Rust's enum has it.
-fn known<T: TryFrom<u8>>(code: u8) -> Result<T, Refused> {
-    T::try_from(code).map_err(|_| not_made())
+fn known<T: TryFrom<u8>>(code: u64) -> Result<T, Refused> {
+    let known = u8::try_from(code).ok().and_then(|c| T::try_from(c).ok());
+    known.ok_or_else(not_made)
 }
 
 pub fn eof(bytes: &[u8]) -> Answer {
     let pdu = EofPdu::from_bytes(bytes)?;
     let eof = Eof {
-        code: pdu.condition_code() as u8,
+        code: pdu.condition_code() as u64,
         sum: pdu.file_checksum(),
         size: pdu.file_size(),
         fault: fault_of(&pdu)?,
@@ -56,9 +57,9 @@ pub fn write_eof(record: &Record, eof: &Eof, buf: &mut [u8]) -> Answer {
 pub fn ack(bytes: &[u8]) -> Answer {
     let pdu = AckPdu::from_bytes(bytes)?;
     let ack = Ack {
-        directive: pdu.directive_code_of_acked_pdu() as u8,
-        code: pdu.condition_code() as u8,
-        status: pdu.transaction_status() as u8,
+        directive: pdu.directive_code_of_acked_pdu() as u64,
+        code: pdu.condition_code() as u64,
+        status: pdu.transaction_status() as u64,
     };
     Ok(show::ack(&record_of(pdu.pdu_header()), &ack))
 }
@@ -97,7 +98,7 @@ pub fn metadata(bytes: &[u8]) -> Answer {
 
 pub fn write_metadata(record: &Record, metadata: &Metadata, buf: &mut [u8]) -> Answer {
     let header = header_of(record)?;
-    let kind: ChecksumType = known(metadata.checksum_type)?;
+    let kind: ChecksumType = known(metadata.checksum_type.into())?;
     let params = MetadataGenericParams::new(metadata.closure == 1, kind, metadata.size);
     let source = Lv::new(&metadata.source_name)?;
     let destination = Lv::new(&metadata.destination_name)?;

@@ -129,6 +129,30 @@ enum-told-2 c = search needs
 none-requires-2 : tie.Need-none-requires-2
 none-requires-2 c κs = search needs
 
+enum-told-3 : tie.Need-enum-told-3
+enum-told-3 c = search needs
+
+none-requires-3 : tie.Need-none-requires-3
+none-requires-3 c κs = search needs
+
+enum-told-4 : tie.Need-enum-told-4
+enum-told-4 c = search needs
+
+none-requires-4 : tie.Need-none-requires-4
+none-requires-4 c κs = search needs
+
+enum-told-5 : tie.Need-enum-told-5
+enum-told-5 c = search needs
+
+none-requires-5 : tie.Need-none-requires-5
+none-requires-5 c κs = search needs
+
+enum-told-6 : tie.Need-enum-told-6
+enum-told-6 c = search needs
+
+none-requires-6 : tie.Need-none-requires-6
+none-requires-6 c κs = search needs
+
 returns : tie.Need-returns
 returns c = c .two .ensures ∙ ap numbersOf (sym (c .before .before .self .given .1))
 
@@ -177,6 +201,18 @@ returns-15 c = c .none .ensures ∙ ap numbersOf (sym (c .before .enum-told .giv
 returns-16 : tie.Need-returns-16
 returns-16 c = c .none2 .ensures ∙ ap numbersOf (sym (c .before .enum-told2 .given .1))
 
+returns-17 : tie.Need-returns-17
+returns-17 c = c .none3 .ensures ∙ ap numbersOf (sym (c .before .enum-told3 .given .1))
+
+returns-18 : tie.Need-returns-18
+returns-18 c = c .none4 .ensures ∙ ap numbersOf (sym (c .before .enum-told4 .given .1))
+
+returns-19 : tie.Need-returns-19
+returns-19 c = c .none5 .ensures ∙ ap numbersOf (sym (c .before .enum-told5 .given .1))
+
+returns-20 : tie.Need-returns-20
+returns-20 c = c .none6 .ensures ∙ ap numbersOf (sym (c .before .enum-told6 .given .1))
+
 pub numbers-spec : {M : Type 1} → statement M
 numbers-spec =
     tie.close
@@ -222,6 +258,14 @@ numbers-spec =
     none-requires
     enum-told-2
     none-requires-2
+    enum-told-3
+    none-requires-3
+    enum-told-4
+    none-requires-4
+    enum-told-5
+    none-requires-5
+    enum-told-6
+    none-requires-6
     returns
     returns-2
     returns-3
@@ -237,4 +281,8 @@ numbers-spec =
     returns-13
     returns-14
     returns-15
-    returns-16)
+    returns-16
+    returns-17
+    returns-18
+    returns-19
+    returns-20)

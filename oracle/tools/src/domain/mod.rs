@@ -1,6 +1,9 @@
 //! Where port and Rust are compared: the section of document 01 with that name, what its table calls
 //! the port's own, and where a request of document 02 departs from the Rust. It is judged from the
 //! command alone, by neither side's answer.
+mod ack;
+mod eof;
+
 use crate::command::{Command, Nak};
 use crate::make::{nak_len, pair_size};
 use crate::{Field, List, Record, Scope};
@@ -8,8 +11,7 @@ use crate::{Field, List, Record, Scope};
 const MAX_NORMAL_PAIRS: usize = 8190;
 const MAX_LARGE_PAIRS: usize = 4094;
 
-/// Whether the answers to a command of the base are compared; `None` for a later command, and for
-/// `wsized`, which asks the Rust alone.
+/// Whether the answers to a command are compared; `None` for a command that the port lacks.
 pub fn compared(command: &Command) -> Option<bool> {
     use Command::*;
     Some(match command {
@@ -24,58 +26,71 @@ pub fn compared(command: &Command) -> Option<bool> {
             pairs_fit(record.large, *count) && scope_fits(record.large, scope)
         }),
         Compare(bytes, nak) => reading(bytes) && writing(nak),
-        _ => return None,
+        Eof(bytes) => eof::reading(bytes),
+        Ack(bytes) => ack::reading(bytes),
+        WriteEof(record, eof, _) => eof::writing(record, eof),
+        WriteAck(record, ack, _) => ack::writing(record, ack),
+        WriteSized(..) | Metadata(_) | WriteMetadata(..) => return None,
     })
 }
 
 /// "every buffer, except those that hold all P bytes, have a good checksum, and whose E is at least
 /// 9 and below h + 1 + F"; C-05: "for type 0 only", and for type 1 as far as 21 is not reached.
 pub fn reading(bytes: &[u8]) -> bool {
-    let Some(sizes) = Sizes::read(bytes) else {
+    let Some(pdu) = Pdu::whole(bytes) else {
         return true;
     };
-    let Some(pdu) = bytes.get(..sizes.pdu) else {
-        return true;
-    };
-    if sizes.crc && checksum(pdu) != 0 {
-        return true;
-    }
-    let end = if sizes.crc { sizes.pdu - 2 } else { sizes.pdu };
-    end < 9 || !sizes.file_data && sizes.header + 1 + sizes.pair <= end
+    pdu.stop < 9 || !pdu.file_data && 1 + pdu.offsets(2) <= pdu.data.len()
 }
 
-/// h, P and F of a buffer whose header is accepted.
-struct Sizes {
-    header: usize,
-    pdu: usize,
-    pair: usize,
-    crc: bool,
+/// What a buffer holds that every reader takes, of whatever directive: a good header, all P bytes and
+/// a good checksum.
+struct Pdu<'a> {
     file_data: bool,
+    towards_sender: bool,
+    large: bool,
+    /// E
+    stop: usize,
+    /// What lies behind the header, up to E.
+    data: &'a [u8],
 }
 
-impl Sizes {
-    fn read(bytes: &[u8]) -> Option<Sizes> {
-        let &[first, high, low, widths, ..] = bytes else {
-            return None;
-        };
-        let entity = usize::from(widths >> 4 & 7) + 1;
-        let sequence = usize::from(widths & 7) + 1;
-        let header = 4 + 2 * entity + sequence;
-        if first >> 5 != 1
-            || !allowed(entity as u64)
-            || !allowed(sequence as u64)
-            || bytes.len() < header
-        {
+impl Pdu<'_> {
+    /// `None` where the readers of both sides refuse the buffer alike, by tests that they share.
+    fn whole(bytes: &[u8]) -> Option<Pdu<'_>> {
+        let header = header_read(bytes)?;
+        let length = usize::from(u16::from_be_bytes([bytes[1], bytes[2]]));
+        let whole = bytes.get(..header + length)?;
+        let bit = |k: u8| bytes[0] >> k & 1 == 1;
+        let crc = bit(1);
+        if crc && checksum(whole) != 0 {
             return None;
         }
-        Some(Sizes {
-            header,
-            pdu: header + usize::from(u16::from_be_bytes([high, low])),
-            pair: if first & 1 == 1 { 16 } else { 8 },
-            crc: first >> 1 & 1 == 1,
-            file_data: first >> 4 & 1 == 1,
+        let stop = whole.len() - 2 * usize::from(crc);
+        Some(Pdu {
+            file_data: bit(4),
+            towards_sender: bit(3),
+            large: bit(0),
+            stop,
+            data: whole.get(header..stop).unwrap_or(&[]),
         })
     }
+
+    /// The bytes of so many offsets into a file, or of one file size.
+    fn offsets(&self, count: usize) -> usize {
+        count * if self.large { 8 } else { 4 }
+    }
+}
+
+/// h of a buffer whose header is accepted.
+fn header_read(bytes: &[u8]) -> Option<usize> {
+    let &[first, _, _, widths, ..] = bytes else {
+        return None;
+    };
+    let [entity, sequence] = [widths >> 4 & 7, widths & 7].map(|bits| usize::from(bits) + 1);
+    let header = 4 + 2 * entity + sequence;
+    let widths = allowed(entity as u64) && allowed(sequence as u64);
+    (first >> 5 == 1 && widths && header <= bytes.len()).then_some(header)
 }
 
 /// Generator x^16 + x^12 + x^5 + 1, start 0xFFFF, most significant bit first.
@@ -149,5 +164,10 @@ fn count_fits(record: &Record, size: usize) -> bool {
 }
 
 fn scope_fits(large: u8, scope: &Scope) -> bool {
-    large == 1 || scope.start.max(scope.end) <= u64::from(u32::MAX)
+    size_fits(large, scope.start.max(scope.end))
+}
+
+/// Whether a file's size, or an offset into it, has the bytes that the file flag gives it.
+fn size_fits(large: u8, size: u64) -> bool {
+    large == 1 || size <= u64::from(u32::MAX)
 }

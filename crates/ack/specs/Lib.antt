@@ -1,0 +1,6 @@
+-- The definitions that the promises cite, from section 5.2.4 of the standard and document 02, C-01; read them in this order.
+pub mod Ack
+pub mod Reading
+pub mod Writing
+pub mod Cases
+pub mod Demands

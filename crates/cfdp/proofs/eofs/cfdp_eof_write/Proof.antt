@@ -1,0 +1,58 @@
+-- `cfdp::eofs::cfdp_eof_write` meets its contract: what the writer says and stores, of the header that was given.
+-- Assumes nothing.
+use mathlib.Core.Path.{sym, ap, _∙_}
+use lib.ListN.{length}
+use Rattle.header.specs.Answers.{headerAnswer}
+use Rattle.eof.specs.declared.fault.FaultLocation.{FaultLocation}
+use Rattle.eof.specs.Writing.{writingEof, eofMemory}
+use Rattle.cfdp.specs.Given.{eofFrom}
+use Rattle.cfdp.specs.Shown.{shown, writtenNumbers}
+use Rattle.cfdp.proofs.Given.{none-shown, none-left, given-shown, given-left}
+use borrow.Author.Needs.{needs}
+use Rattle.cfdp.proofs.eofs.cfdp_eof_write.Statement.{statement}
+use Rattle.cfdp.proofs.eofs.cfdp_eof_write.Tie as tie
+
+header-from-requires : tie.Need-header-from-requires
+header-from-requires c κs = search needs
+
+enum-known-joined : tie.Need-enum-known-joined
+enum-known-joined c = search needs
+
+show-refusal-requires : tie.Need-show-refusal-requires
+show-refusal-requires c κs = search needs
+
+enum-known-joined-2 : tie.Need-enum-known-joined-2
+enum-known-joined-2 c = search needs
+
+fault-from-requires : tie.Need-fault-from-requires
+fault-from-requires c κs = search needs
+
+write-to-slice-requires : tie.Need-write-to-slice-requires
+write-to-slice-requires c κs = search needs
+
+show-written-requires : tie.Need-show-written-requires
+show-written-requires c κs = search needs
+
+returns : tie.Need-returns
+returns c = (none-shown writtenNumbers _ _ _ _ (ap headerAnswer (sym (c .before .before .before .joined .given .1)) ∙ c .before .before .before .before .before .header-from .ensures) (c .show-refusal .ensures), none-left _ _ _ _ (ap headerAnswer (sym (c .before .before .before .joined .given .1)) ∙ c .before .before .before .before .before .header-from .ensures))
+
+same-length : tie.Need-same-length
+same-length c = search needs
+
+returns-2 : tie.Need-returns-2
+returns-2 c = (given-shown writtenNumbers _ _ _ _ (ap headerAnswer (sym (c .before .before .before .before .before .before .before .before .joined2 .given .1)) ∙ c .before .before .before .before .before .before .before .before .before .before .header-from .ensures) (c .show-written .ensures ∙ ap (shown writtenNumbers) (c .before .before .before .before .write-to-slice .ensures .0 ∙ ap (λ (x : FaultLocation). writingEof (eofFrom (c .before .before .before .before .before .before .before .before .joined2 .given .0 .0) (c .before .before .before .before .before .before .before .before .before .before .before .before .args .condition) (c .before .before .before .before .before .before .before .before .before .before .before .before .args .file-checksum) (c .before .before .before .before .before .before .before .before .before .before .before .before .args .file-size) x) (length (c .before .before .before .before .before .before .before .before .before .before .before .before .args .buf .now))) (c .before .before .before .before .before .before .fault-from .ensures))), given-left _ _ _ _ _ (ap headerAnswer (sym (c .before .before .before .before .before .before .before .before .joined2 .given .1)) ∙ c .before .before .before .before .before .before .before .before .before .before .header-from .ensures) (c .before .before .before .before .write-to-slice .ensures .1 ∙ ap (λ (x : FaultLocation). eofMemory (eofFrom (c .before .before .before .before .before .before .before .before .joined2 .given .0 .0) (c .before .before .before .before .before .before .before .before .before .before .before .before .args .condition) (c .before .before .before .before .before .before .before .before .before .before .before .before .args .file-checksum) (c .before .before .before .before .before .before .before .before .before .before .before .before .args .file-size) x) (c .before .before .before .before .before .before .before .before .before .before .before .before .args .buf .now)) (c .before .before .before .before .before .before .fault-from .ensures)))
+
+pub cfdp-eof-write-spec : {M : Type 1} → statement M
+cfdp-eof-write-spec =
+    tie.close
+    (tie.spec
+    header-from-requires
+    enum-known-joined
+    show-refusal-requires
+    enum-known-joined-2
+    fault-from-requires
+    write-to-slice-requires
+    show-written-requires
+    returns
+    same-length
+    returns-2)
