@@ -95,9 +95,21 @@ enum {
     CFDP_REFUSED_PACKET_SMALL = 15,     /* nothing; a NAK with no pair does not fit the packet */
     CFDP_REFUSED_CONDITION = 16,        /* nothing; the condition code is 12, 13 or above 15 */
     CFDP_REFUSED_ACKNOWLEDGED = 17,     /* nothing; the acknowledged directive is neither EOF (4) nor Finished (5) */
+    CFDP_REFUSED_ORDER = 18,            /* a pair out of order: of a comparison the NAK and the pair, from 1; of a log the offset */
+    CFDP_REFUSED_TRANSACTIONS = 19,     /* nothing; the NAKs are of different transactions, by source or sequence number */
+    CFDP_REFUSED_NO_ROOM = 20,          /* nothing; what is to be stored outnumbers the lent numbers */
     CFDP_REFUSED_NOT_A_DIRECTIVE = 21,  /* nothing; the PDU type is 1, file data */
+    CFDP_REFUSED_PDU_LARGE = 22,        /* nothing; the PDU is longer than a receiver's window */
+    CFDP_REFUSED_RANGES = 23,           /* nothing; received ranges or the scope are out of order */
+    CFDP_REFUSED_NO_REQUEST_FITS = 24,  /* nothing; a byte is missing, and the packet holds no request */
+    CFDP_REFUSED_FIELD_CUT = 25,        /* the offset of the name or option that runs past its end */
+    CFDP_REFUSED_ENTRY = 26,            /* the offset of the log's entry that is cut, of an unknown tag or of a wrong length */
+    CFDP_REFUSED_OWED = 27,             /* nothing; more ranges are owed than are kept */
     CFDP_REFUSED_FAULT_LOCATION = 28,   /* nothing; what follows an EOF's file size is not one entity identifier field */
-    CFDP_REFUSED_FILE_SIZE = 29         /* nothing; the file size is above 4294967295 without the large file flag */
+    CFDP_REFUSED_FILE_SIZE = 29,        /* nothing; the file size is above 4294967295 without the large file flag */
+    CFDP_REFUSED_CHECKSUM_TYPE = 30,    /* nothing; the checksum type is not 0, 1, 2, 3 or 15 */
+    CFDP_REFUSED_NAME = 31,             /* nothing; a name is longer than 255 bytes */
+    CFDP_REFUSED_DATA_LARGE = 32        /* nothing; the data field would be longer than CFDP_MOST_DATA */
 };
 
 /* The places of an answer. */

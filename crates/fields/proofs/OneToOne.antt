@@ -2,15 +2,15 @@
 -- Assumes nothing.
 use Prim.Native.Nat.{ℕ}
 use mathlib.Core.Path.{_≡_, refl, sym, ap, _∙_}
-use mathlib.Core.Bool.{Bool, true, false}
+use mathlib.Core.Bool.{Bool, true, false, _&&_}
 use mathlib.Core.List.{List}
 use lib.Dec.{eqb}
-use lib.ListN.{getD}
+use lib.ListN.{length, getD}
 use Rattle.fields.specs.Choice.{if_then_else_}
 use Rattle.fields.specs.Answer.{Answer, accepted, short, refused, told}
 use Rattle.fields.specs.Refusal.{paper, numbersOf, listed}
 use Rattle.fields.specs.declared.refusal.Refusal.{Refusal}
-use Rattle.fields.specs.declared.refusal.Refusal.the-variants.{FromSliceTooSmall, CfdpVersionMissmatch, InvalidEntityLen, InvalidTransactionSeqNumLen, Checksum, DataFieldTooSmall, InvalidDirectiveType, WrongDirectiveType, InvalidStartOrEndOfScope, TooManySegmentRequests, ToSliceTooSmall, OddCount, SourceDestIdLenMissmatch, ValueTooLargeForWidth, TooSmallForPduHeader, InvalidConditionCode, InvalidAckedDirectiveCode, NotADirective, InvalidFaultLocation, FileSizeTooLarge}
+use Rattle.fields.specs.declared.refusal.Refusal.the-variants.{FromSliceTooSmall, CfdpVersionMissmatch, InvalidEntityLen, InvalidTransactionSeqNumLen, Checksum, DataFieldTooSmall, InvalidDirectiveType, WrongDirectiveType, InvalidStartOrEndOfScope, TooManySegmentRequests, ToSliceTooSmall, OddCount, SourceDestIdLenMissmatch, ValueTooLargeForWidth, TooSmallForPduHeader, InvalidConditionCode, InvalidAckedDirectiveCode, PairOutOfOrder, EntryOutOfOrder, TransactionsDiffer, NoRoom, NotADirective, PduTooLarge, RangesOutOfOrder, NoRequestFits, FieldCut, InvalidEntry, TooManyRanges, InvalidFaultLocation, FileSizeTooLarge, InvalidChecksumType, NameTooLong, DataFieldTooLarge}
 
 -- what has a way back is one-to-one
 pub one-to-one : {R S : Type 0} (f : R → S) (g : S → R) → ((r : R) → g (f r) ≡ r) → (a b : R) → f a ≡ f b → a ≡ b
@@ -36,9 +36,22 @@ refusalOf ns =
     else if eqb (getD ns 0 0) 15 then TooSmallForPduHeader
     else if eqb (getD ns 0 0) 16 then InvalidConditionCode
     else if eqb (getD ns 0 0) 17 then InvalidAckedDirectiveCode
+    else if eqb (getD ns 0 0) 18 && eqb (length ns) 3 then PairOutOfOrder (getD ns 1 0) (getD ns 2 0)
+    else if eqb (getD ns 0 0) 18 then EntryOutOfOrder (getD ns 1 0)
+    else if eqb (getD ns 0 0) 19 then TransactionsDiffer
+    else if eqb (getD ns 0 0) 20 then NoRoom
     else if eqb (getD ns 0 0) 21 then NotADirective
+    else if eqb (getD ns 0 0) 22 then PduTooLarge
+    else if eqb (getD ns 0 0) 23 then RangesOutOfOrder
+    else if eqb (getD ns 0 0) 24 then NoRequestFits
+    else if eqb (getD ns 0 0) 25 then FieldCut (getD ns 1 0)
+    else if eqb (getD ns 0 0) 26 then InvalidEntry (getD ns 1 0)
+    else if eqb (getD ns 0 0) 27 then TooManyRanges
     else if eqb (getD ns 0 0) 28 then InvalidFaultLocation
-    else FileSizeTooLarge
+    else if eqb (getD ns 0 0) 29 then FileSizeTooLarge
+    else if eqb (getD ns 0 0) 30 then InvalidChecksumType
+    else if eqb (getD ns 0 0) 31 then NameTooLong
+    else DataFieldTooLarge
 
 back : (r : Refusal) → refusalOf (paper r) ≡ r
 unfolding refusalOf
@@ -59,9 +72,22 @@ back (ValueTooLargeForWidth v w) = refl
 back TooSmallForPduHeader = refl
 back InvalidConditionCode = refl
 back InvalidAckedDirectiveCode = refl
+back (PairOutOfOrder f p) = refl
+back (EntryOutOfOrder a) = refl
+back TransactionsDiffer = refl
+back NoRoom = refl
 back NotADirective = refl
+back PduTooLarge = refl
+back RangesOutOfOrder = refl
+back NoRequestFits = refl
+back (FieldCut a) = refl
+back (InvalidEntry a) = refl
+back TooManyRanges = refl
 back InvalidFaultLocation = refl
 back FileSizeTooLarge = refl
+back InvalidChecksumType = refl
+back NameTooLong = refl
+back DataFieldTooLarge = refl
 
 -- no two refusals have the same number and values
 pub paper-one-to-one : (a b : Refusal) → paper a ≡ paper b → a ≡ b
@@ -86,9 +112,22 @@ numbers-paper (ValueTooLargeForWidth v w) = refl
 numbers-paper TooSmallForPduHeader = refl
 numbers-paper InvalidConditionCode = refl
 numbers-paper InvalidAckedDirectiveCode = refl
+numbers-paper (PairOutOfOrder f p) = refl
+numbers-paper (EntryOutOfOrder a) = refl
+numbers-paper TransactionsDiffer = refl
+numbers-paper NoRoom = refl
 numbers-paper NotADirective = refl
+numbers-paper PduTooLarge = refl
+numbers-paper RangesOutOfOrder = refl
+numbers-paper NoRequestFits = refl
+numbers-paper (FieldCut a) = refl
+numbers-paper (InvalidEntry a) = refl
+numbers-paper TooManyRanges = refl
 numbers-paper InvalidFaultLocation = refl
 numbers-paper FileSizeTooLarge = refl
+numbers-paper InvalidChecksumType = refl
+numbers-paper NameTooLong = refl
+numbers-paper DataFieldTooLarge = refl
 
 -- ---- an answer that is an enum of what is accepted and a refusal, back from document 01's terms
 

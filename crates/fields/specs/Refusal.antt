@@ -3,7 +3,7 @@ use Prim.Native.Nat.{ℕ, _-_}
 use mathlib.Core.List.{List, [], _∷_}
 use lib.ListN.{length, getD, take}
 use Rattle.fields.specs.declared.refusal.Refusal.{Refusal}
-use Rattle.fields.specs.declared.refusal.Refusal.the-variants.{FromSliceTooSmall, CfdpVersionMissmatch, InvalidEntityLen, InvalidTransactionSeqNumLen, Checksum, DataFieldTooSmall, InvalidDirectiveType, WrongDirectiveType, InvalidStartOrEndOfScope, TooManySegmentRequests, ToSliceTooSmall, OddCount, SourceDestIdLenMissmatch, ValueTooLargeForWidth, TooSmallForPduHeader, InvalidConditionCode, InvalidAckedDirectiveCode, NotADirective, InvalidFaultLocation, FileSizeTooLarge}
+use Rattle.fields.specs.declared.refusal.Refusal.the-variants.{FromSliceTooSmall, CfdpVersionMissmatch, InvalidEntityLen, InvalidTransactionSeqNumLen, Checksum, DataFieldTooSmall, InvalidDirectiveType, WrongDirectiveType, InvalidStartOrEndOfScope, TooManySegmentRequests, ToSliceTooSmall, OddCount, SourceDestIdLenMissmatch, ValueTooLargeForWidth, TooSmallForPduHeader, InvalidConditionCode, InvalidAckedDirectiveCode, PairOutOfOrder, EntryOutOfOrder, TransactionsDiffer, NoRoom, NotADirective, PduTooLarge, RangesOutOfOrder, NoRequestFits, FieldCut, InvalidEntry, TooManyRanges, InvalidFaultLocation, FileSizeTooLarge, InvalidChecksumType, NameTooLong, DataFieldTooLarge}
 use Rattle.fields.specs.declared.refusal.RefusalNumbers.{RefusalNumbers}
 
 abbrev pub paper : Refusal → List ℕ
@@ -24,9 +24,22 @@ paper (ValueTooLargeForWidth value width) = 14 ∷ value ∷ width ∷ []
 paper TooSmallForPduHeader = 15 ∷ []
 paper InvalidConditionCode = 16 ∷ []
 paper InvalidAckedDirectiveCode = 17 ∷ []
+paper (PairOutOfOrder file pair) = 18 ∷ file ∷ pair ∷ []
+paper (EntryOutOfOrder at) = 18 ∷ at ∷ []
+paper TransactionsDiffer = 19 ∷ []
+paper NoRoom = 20 ∷ []
 paper NotADirective = 21 ∷ []
+paper PduTooLarge = 22 ∷ []
+paper RangesOutOfOrder = 23 ∷ []
+paper NoRequestFits = 24 ∷ []
+paper (FieldCut at) = 25 ∷ at ∷ []
+paper (InvalidEntry at) = 26 ∷ at ∷ []
+paper TooManyRanges = 27 ∷ []
 paper InvalidFaultLocation = 28 ∷ []
 paper FileSizeTooLarge = 29 ∷ []
+paper InvalidChecksumType = 30 ∷ []
+paper NameTooLong = 31 ∷ []
+paper DataFieldTooLarge = 32 ∷ []
 
 -- the same as a record of fixed size: the number, how many values there are, and these; a value that there is not is 0
 abbrev pub numbersOf : Refusal → RefusalNumbers

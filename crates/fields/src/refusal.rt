@@ -2,7 +2,7 @@
 ghost use mathlib.Core.Path.{_≡_};
 ghost use Rattle.fields.specs.Refusal.{numbersOf};
 
-// Names are the Rust's, where the Rust has one; the names of 6, 10, 12, 21 and 28 are the port's own.
+// Names are the Rust's, where the Rust has one; the names of 6, 10, 12, 18 to 28 and 30 to 32 are the port's own.
 pub enum Refusal {
     // 1: buffer short.
     FromSliceTooSmall { found: usize, expected: usize },
@@ -38,12 +38,38 @@ pub enum Refusal {
     InvalidConditionCode,
     // 17: acknowledged directive not allowed.
     InvalidAckedDirectiveCode,
+    // 18: first pair out of order, in the comparison of two NAKs; which NAK, and which of its pairs, each from 1.
+    PairOutOfOrder { file: u8, pair: usize },
+    // 18 of a log: a pair or a resent range out of order; the offset of its entry.
+    EntryOutOfOrder(usize),
+    // 19: transactions differ, in source or sequence number.
+    TransactionsDiffer,
+    // 20: no room for what is to be stored in lent numbers.
+    NoRoom,
     // 21: not a directive: a PDU of type 1, file data.
     NotADirective,
+    // 22: PDU above the 2,048 bytes of a receiver's window.
+    PduTooLarge,
+    // 23: received ranges or scope out of order.
+    RangesOutOfOrder,
+    // 24: a byte is missing and no request fits the packet.
+    NoRequestFits,
+    // 25: a name or an option runs past its end; the offset of its first byte.
+    FieldCut(usize),
+    // 26: an entry of a log is cut, has an unknown tag, or is a resent range not of 16 bytes; its offset.
+    InvalidEntry(usize),
+    // 27: more than 256 ranges owed.
+    TooManyRanges,
     // 28: the bytes after the file size of an EOF are not one entity identifier field of an allowed width.
     InvalidFaultLocation,
     // 29: file size above 2^32 - 1 without the large file flag.
     FileSizeTooLarge,
+    // 30: checksum type that the Rust's list lacks.
+    InvalidChecksumType,
+    // 31: name above 255 bytes.
+    NameTooLong,
+    // 32: data field above 65,535 bytes.
+    DataFieldTooLarge,
 }
 
 // A refusal as document 01 prints it: its number, how many values it returns, and these; a value that it does not
@@ -113,9 +139,22 @@ impl Refusal {
             Refusal::TooSmallForPduHeader => none(15),
             Refusal::InvalidConditionCode => none(16),
             Refusal::InvalidAckedDirectiveCode => none(17),
+            Refusal::PairOutOfOrder { file, pair } => two(18, file as u64, pair as u64),
+            Refusal::EntryOutOfOrder(at) => one(18, at as u64),
+            Refusal::TransactionsDiffer => none(19),
+            Refusal::NoRoom => none(20),
             Refusal::NotADirective => none(21),
+            Refusal::PduTooLarge => none(22),
+            Refusal::RangesOutOfOrder => none(23),
+            Refusal::NoRequestFits => none(24),
+            Refusal::FieldCut(at) => one(25, at as u64),
+            Refusal::InvalidEntry(at) => one(26, at as u64),
+            Refusal::TooManyRanges => none(27),
             Refusal::InvalidFaultLocation => none(28),
             Refusal::FileSizeTooLarge => none(29),
+            Refusal::InvalidChecksumType => none(30),
+            Refusal::NameTooLong => none(31),
+            Refusal::DataFieldTooLarge => none(32),
         }
     }
 }

@@ -12,10 +12,9 @@ pub const UNTOUCHED: u64 = 0xa5a5_a5a5_a5a5_a5a5;
 /// How many numbers a refusal returns: document 01's table, then what document 02's requests add.
 fn values(refusal: u64) -> Option<usize> {
     match refusal {
-        2..=5 | 7 | 8 | 12 => Some(1),
-        1 | 6 | 9..=11 | 13 | 14 => Some(2),
-        15 => Some(0),
-        16 | 17 | 21 | 28 | 29 => Some(0),
+        2..=5 | 7 | 8 | 12 | 25 | 26 => Some(1),
+        1 | 6 | 9..=11 | 13 | 14 | 18 => Some(2),
+        15..=17 | 19..=24 | 27..=32 => Some(0),
         _ => None,
     }
 }

@@ -135,6 +135,21 @@ enum-told-3 c = search needs
 none-requires-3 : tie.Need-none-requires-3
 none-requires-3 c κs = search needs
 
+enum-known-self-15 : tie.Need-enum-known-self-15
+enum-known-self-15 c = search needs
+
+cast-two-4 : tie.Need-cast-two-4
+cast-two-4 c = search needs
+
+two-requires-8 : tie.Need-two-requires-8
+two-requires-8 c κs = search needs
+
+enum-known-self-16 : tie.Need-enum-known-self-16
+enum-known-self-16 c = search needs
+
+one-requires-8 : tie.Need-one-requires-8
+one-requires-8 c κs = search needs
+
 enum-told-4 : tie.Need-enum-told-4
 enum-told-4 c = search needs
 
@@ -152,6 +167,72 @@ enum-told-6 c = search needs
 
 none-requires-6 : tie.Need-none-requires-6
 none-requires-6 c κs = search needs
+
+enum-told-7 : tie.Need-enum-told-7
+enum-told-7 c = search needs
+
+none-requires-7 : tie.Need-none-requires-7
+none-requires-7 c κs = search needs
+
+enum-told-8 : tie.Need-enum-told-8
+enum-told-8 c = search needs
+
+none-requires-8 : tie.Need-none-requires-8
+none-requires-8 c κs = search needs
+
+enum-told-9 : tie.Need-enum-told-9
+enum-told-9 c = search needs
+
+none-requires-9 : tie.Need-none-requires-9
+none-requires-9 c κs = search needs
+
+enum-known-self-17 : tie.Need-enum-known-self-17
+enum-known-self-17 c = search needs
+
+one-requires-9 : tie.Need-one-requires-9
+one-requires-9 c κs = search needs
+
+enum-known-self-18 : tie.Need-enum-known-self-18
+enum-known-self-18 c = search needs
+
+one-requires-10 : tie.Need-one-requires-10
+one-requires-10 c κs = search needs
+
+enum-told-10 : tie.Need-enum-told-10
+enum-told-10 c = search needs
+
+none-requires-10 : tie.Need-none-requires-10
+none-requires-10 c κs = search needs
+
+enum-told-11 : tie.Need-enum-told-11
+enum-told-11 c = search needs
+
+none-requires-11 : tie.Need-none-requires-11
+none-requires-11 c κs = search needs
+
+enum-told-12 : tie.Need-enum-told-12
+enum-told-12 c = search needs
+
+none-requires-12 : tie.Need-none-requires-12
+none-requires-12 c κs = search needs
+
+enum-told-13 : tie.Need-enum-told-13
+enum-told-13 c = search needs
+
+none-requires-13 : tie.Need-none-requires-13
+none-requires-13 c κs = search needs
+
+enum-told-14 : tie.Need-enum-told-14
+enum-told-14 c = search needs
+
+none-requires-14 : tie.Need-none-requires-14
+none-requires-14 c κs = search needs
+
+enum-told-15 : tie.Need-enum-told-15
+enum-told-15 c = search needs
+
+none-requires-15 : tie.Need-none-requires-15
+none-requires-15 c κs = search needs
 
 returns : tie.Need-returns
 returns c = c .two .ensures ∙ ap numbersOf (sym (c .before .before .self .given .1))
@@ -205,13 +286,52 @@ returns-17 : tie.Need-returns-17
 returns-17 c = c .none3 .ensures ∙ ap numbersOf (sym (c .before .enum-told3 .given .1))
 
 returns-18 : tie.Need-returns-18
-returns-18 c = c .none4 .ensures ∙ ap numbersOf (sym (c .before .enum-told4 .given .1))
+returns-18 c = c .two8 .ensures ∙ ap numbersOf (sym (c .before .before .self15 .given .1))
 
 returns-19 : tie.Need-returns-19
-returns-19 c = c .none5 .ensures ∙ ap numbersOf (sym (c .before .enum-told5 .given .1))
+returns-19 c = c .one8 .ensures ∙ ap numbersOf (sym (c .before .before .self16 .given .1))
 
 returns-20 : tie.Need-returns-20
-returns-20 c = c .none6 .ensures ∙ ap numbersOf (sym (c .before .enum-told6 .given .1))
+returns-20 c = c .none4 .ensures ∙ ap numbersOf (sym (c .before .enum-told4 .given .1))
+
+returns-21 : tie.Need-returns-21
+returns-21 c = c .none5 .ensures ∙ ap numbersOf (sym (c .before .enum-told5 .given .1))
+
+returns-22 : tie.Need-returns-22
+returns-22 c = c .none6 .ensures ∙ ap numbersOf (sym (c .before .enum-told6 .given .1))
+
+returns-23 : tie.Need-returns-23
+returns-23 c = c .none7 .ensures ∙ ap numbersOf (sym (c .before .enum-told7 .given .1))
+
+returns-24 : tie.Need-returns-24
+returns-24 c = c .none8 .ensures ∙ ap numbersOf (sym (c .before .enum-told8 .given .1))
+
+returns-25 : tie.Need-returns-25
+returns-25 c = c .none9 .ensures ∙ ap numbersOf (sym (c .before .enum-told9 .given .1))
+
+returns-26 : tie.Need-returns-26
+returns-26 c = c .one9 .ensures ∙ ap numbersOf (sym (c .before .before .self17 .given .1))
+
+returns-27 : tie.Need-returns-27
+returns-27 c = c .one10 .ensures ∙ ap numbersOf (sym (c .before .before .self18 .given .1))
+
+returns-28 : tie.Need-returns-28
+returns-28 c = c .none10 .ensures ∙ ap numbersOf (sym (c .before .enum-told10 .given .1))
+
+returns-29 : tie.Need-returns-29
+returns-29 c = c .none11 .ensures ∙ ap numbersOf (sym (c .before .enum-told11 .given .1))
+
+returns-30 : tie.Need-returns-30
+returns-30 c = c .none12 .ensures ∙ ap numbersOf (sym (c .before .enum-told12 .given .1))
+
+returns-31 : tie.Need-returns-31
+returns-31 c = c .none13 .ensures ∙ ap numbersOf (sym (c .before .enum-told13 .given .1))
+
+returns-32 : tie.Need-returns-32
+returns-32 c = c .none14 .ensures ∙ ap numbersOf (sym (c .before .enum-told14 .given .1))
+
+returns-33 : tie.Need-returns-33
+returns-33 c = c .none15 .ensures ∙ ap numbersOf (sym (c .before .enum-told15 .given .1))
 
 pub numbers-spec : {M : Type 1} → statement M
 numbers-spec =
@@ -260,12 +380,39 @@ numbers-spec =
     none-requires-2
     enum-told-3
     none-requires-3
+    enum-known-self-15
+    cast-two-4
+    two-requires-8
+    enum-known-self-16
+    one-requires-8
     enum-told-4
     none-requires-4
     enum-told-5
     none-requires-5
     enum-told-6
     none-requires-6
+    enum-told-7
+    none-requires-7
+    enum-told-8
+    none-requires-8
+    enum-told-9
+    none-requires-9
+    enum-known-self-17
+    one-requires-9
+    enum-known-self-18
+    one-requires-10
+    enum-told-10
+    none-requires-10
+    enum-told-11
+    none-requires-11
+    enum-told-12
+    none-requires-12
+    enum-told-13
+    none-requires-13
+    enum-told-14
+    none-requires-14
+    enum-told-15
+    none-requires-15
     returns
     returns-2
     returns-3
@@ -285,4 +432,17 @@ numbers-spec =
     returns-17
     returns-18
     returns-19
-    returns-20)
+    returns-20
+    returns-21
+    returns-22
+    returns-23
+    returns-24
+    returns-25
+    returns-26
+    returns-27
+    returns-28
+    returns-29
+    returns-30
+    returns-31
+    returns-32
+    returns-33)
