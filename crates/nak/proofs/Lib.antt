@@ -11,3 +11,4 @@ pub mod Comparing
 pub mod Cases
 pub mod Demands
 pub mod RoundTrip
+pub mod Archive

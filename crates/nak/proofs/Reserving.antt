@@ -158,25 +158,33 @@ finish-writes r start end room w e =
     let own : Passed (ownTests (h .file) start end (2 * n)) = (rw (eq-eqb _ _ even), (p .own-passed .1 .0, (rw half (p .own-passed .0), tt))) in
     ap accepted (p .handed-back) ∙ passes k (ownTests (h .file) start end (2 * n)) room (p .good) own (p .room-is) ∙ ap (λ (m : ℕ). writingPdu (filled (h .file) m h) (ownTests (h .file) start end (2 * n)) room) (sym half)
 
--- of the record that reserving made
-placed-written : (h : PduHeader) (n start end : ℕ) (numbers s : List ℕ) (w : PduWritten) → length numbers ≡ 2 * n
-    → areaIn (keeping h n) s ≡ numbersBytes (sizeWidth (h .file)) numbers → finishing (placed (keeping h n) n) start end (length s) ≡ accepted w
-    → Written h start end numbers s (placed (keeping h n) n) w
-unfolding finishedMemory nakMemory writingNak finishing filled
-placed-written h n start end numbers s w e f q =
-    let k = keeping h n in
-    let half : length numbers / 2 ≡ n = ap (λ (j : ℕ). j / 2) e ∙ omega arith in
-    let a : accepted w ≡ writingPdu k (ownTests (h .file) start end (2 * n)) (length s) =
-    finish-writes (placed k n) start end (length s) w (sym q) ∙ ap (λ (m : ℕ). writingPdu (filled (h .file) m h) (ownTests (h .file) start end (2 * n)) (length s)) (omega arith) in
-    let b : accepted w ≡ writingNak (h .file) h start end (length numbers) (length s) = a ∙ ap₂ (λ (m c : ℕ). writingPdu (filled (h .file) m h) (ownTests (h .file) start end c) (length s)) (sym half) (sym e) in
+-- finished over the bytes of so many numbers it was written with these
+pub over-numbers : (r : ReservedNak) (start end : ℕ) (numbers s : List ℕ) (w : PduWritten) → length numbers ≡ 2 * r .count
+    → areaIn (keeping (r .header) (r .count)) s ≡ numbersBytes (sizeWidth (r .header .file)) numbers → finishing r start end (length s) ≡ accepted w
+    → Written (r .header) start end numbers s r w
+unfolding finishedMemory nakMemory writingNak finishing
+over-numbers r start end numbers s w e f q =
+    let h = r .header in
+    let k = keeping h (r .count) in
+    let b : accepted w ≡ writingNak (h .file) h start end (length numbers) (length s) =
+    finish-writes r start end (length s) w (sym q) ∙ ap (λ (c : ℕ). writingNak (h .file) h start end c (length s)) (sym e) in
     let c : nakData (h .file) start end (areaIn k s) ≡ nakData (h .file) start end (numbersBytes (sizeWidth (h .file)) numbers) = ap (nakData (h .file) start end) f in
     record {
       answer = sym b;
       bytes =
-          memory-has k (finishTests (h .file) n start end) (nakData (h .file) start end (areaIn k s)) s w q
+          memory-has k (finishTests (h .file) (r .count) start end) (nakData (h .file) start end (areaIn k s)) s w q
           ∙ ap (λ (x : List ℕ). pduOver (w .header) x ++ drop (length (pduOver (w .header) x)) s) c
           ∙ sym (memory-has (filled (h .file) (length numbers / 2) h) (ownTests (h .file) start end (length numbers)) _ s w (sym b));
     }
+
+-- of the record that reserving made
+placed-written : (h : PduHeader) (n start end : ℕ) (numbers s : List ℕ) (w : PduWritten) → length numbers ≡ 2 * n
+    → areaIn (keeping h n) s ≡ numbersBytes (sizeWidth (h .file)) numbers → finishing (placed (keeping h n) n) start end (length s) ≡ accepted w
+    → Written h start end numbers s (placed (keeping h n) n) w
+unfolding nakMemory writingNak filled
+placed-written h n start end numbers s w e f q =
+    let x = over-numbers (placed (keeping h n) n) start end numbers s w e f q in
+    record { answer = x .answer; bytes = x .bytes }
 
 pub finished-is-written : FinishedIsWritten
 unfolding reserving areaIn

@@ -66,7 +66,7 @@ pub halves : (file : LargeFileFlag) (count : ℕ) → count ≡ 2 * (count / 2) 
 halves Normal count e = omega arith
 halves Large count e = omega arith
 
-pairs-back : (file : LargeFileFlag) (ns : List ℕ) → length ns ≡ 2 * (length ns / 2) → Lent (sizeWidth file) ns → pairsOf file (numbersBytes (sizeWidth file) ns) ≡ byTurns ns
+pub pairs-back : (file : LargeFileFlag) (ns : List ℕ) → length ns ≡ 2 * (length ns / 2) → Lent (sizeWidth file) ns → pairsOf file (numbersBytes (sizeWidth file) ns) ≡ byTurns ns
 unfolding pairsOf
 pairs-back file ns e h =
     ap (pairsFrom (sizeWidth file) (numbersBytes (sizeWidth file) ns) 0) (ap (λ (j : ℕ). j / pairSize file) (numbers-length (sizeWidth file) ns) ∙ halves file (length ns) e)
@@ -175,14 +175,20 @@ written-reads-back file h start end room numbers t w ends lent e =
       pairs = ap (pairsOf (k .file)) is ∙ pairs-back (k .file) numbers (z .own .even) (subst (λ (u : ℕ). Lent u numbers) f lent);
     }
 
-pub code-reads-back : CodeReadsBack
+-- the buffer that an accepted write leaves begins with the NAK's bytes
+pub begins-with : (file : LargeFileFlag) (h : PduHeader) (start end : ℕ) (numbers s : List ℕ) (w : PduWritten) → writingNak file h start end (length numbers) (length s) ≡ accepted w
+    → nakMemory file h start end numbers s ≡ nakBytes (w .header) start end numbers ++ drop (length (nakBytes (w .header) start end numbers)) s
 unfolding nakMemory writingNak nakBytes nakOver
+begins-with file h start end numbers s w e =
+    let over : LargeFileFlag → List ℕ = λ f. pduOver (w .header) (nakData f start end (numbersBytes (sizeWidth f) numbers)) in
+    let z = to-write file h start end (length numbers) (length s) w (sym e) in
+    memory-has (filled file (length numbers / 2) h) (ownTests file start end (length numbers)) _ s w e ∙ ap (λ (f : LargeFileFlag). over f ++ drop (length (over f)) s) (sym (z .flag))
+
+pub code-reads-back : CodeReadsBack
 code-reads-back file h start end numbers s w r ends lent e q =
     let k = w .header in
-    let z = to-write file h start end (length numbers) (length s) w (sym e) in
     let N = nakBytes k start end numbers in
-    let m : nakMemory file h start end numbers s ≡ N ++ drop (length N) s =
-    memory-has (filled file (length numbers / 2) h) (ownTests file start end (length numbers)) _ s w e ∙ ap (λ (x : LargeFileFlag). pduOver k (nakData x start end (numbersBytes (sizeWidth x) numbers)) ++ drop (length (pduOver k (nakData x start end (numbersBytes (sizeWidth x) numbers)))) s) (sym (z .flag)) in
+    let m = begins-with file h start end numbers s w e in
     let b = written-reads-back file h start end (length s) numbers (drop (length N) s) w ends lent e in
     let n = readAs k start end (length numbers / 2) in
     (one-nak-result r (Read n) (q ∙ ap (run readingNak) m ∙ b .read), ap (λ (x : List ℕ). pairsOf (k .file) (areaOf n x)) m ∙ b .pairs)

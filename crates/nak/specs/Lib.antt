@@ -9,3 +9,4 @@ pub mod Comparing
 pub mod Within
 pub mod Cases
 pub mod Demands
+pub mod Archive
