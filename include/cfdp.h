@@ -48,7 +48,7 @@
    bytes are there; read these P bytes as a PDU; go on at P, whether they were accepted or refused. A header that is refused
    with 2, 3 or 4 has no P, and where the next PDU starts cannot be known. Do not wait for what the reader of a directive asks
    for once it has P bytes: of a PDU of 7 or 8 bytes, which is too short for one, it asks for a ninth (refusal 1), and that
-   byte belongs to the next PDU. */
+   byte belongs to the next PDU. A stream of NAKs alone goes to cfdp_receive, which frames it. */
 #ifndef CFDP_H
 #define CFDP_H
 
@@ -74,6 +74,9 @@
 #define CFDP_MOST_PDU 65563
 #define CFDP_MOST_NORMAL_PAIRS 8190
 #define CFDP_MOST_LARGE_PAIRS 4094
+
+/* The bytes of a receiver's window, which is the longest PDU that it takes. */
+#define CFDP_WINDOW_LEN 2048
 
 /* What stands at answer[CFDP_ANSWER_NUMBER], and what follows it as answer[CFDP_ANSWER_FIRST] and answer[CFDP_ANSWER_SECOND]. */
 enum {
@@ -221,6 +224,32 @@ bool cfdp_nak_pair(const uint8_t *area, size_t area_len, bool large, size_t inde
 /* Copies the whole pairs of a request area, as many as numbers has room for, start and end by turns: how many pairs it
    copied; the rest of numbers stays as it was. */
 size_t cfdp_nak_pairs(const uint8_t *area, size_t area_len, bool large, uint64_t *numbers, size_t numbers_len);
+
+/* ---- receiving NAKs from fragments of a stream, in which they are laid end to end
+
+   A receiver is a window and a count, which the caller keeps: fresh, and after a reset, they are CFDP_WINDOW_LEN zeros and 0. However
+   the stream is cut, calls until every fragment is used, or one is refused, give the same NAKs and the same refusal, and
+   leave the same window and count.
+
+     while (fragment_len > 0) {
+         size_t taken = cfdp_receive(window, &filled, fragment, fragment_len, answer);
+         fragment += taken, fragment_len -= taken;
+         if (answer[CFDP_ANSWER_NUMBER] == CFDP_ACCEPTED)
+             .. a NAK, in the window until the next call
+         else if (answer[CFDP_ANSWER_NUMBER] != CFDP_RECEIVE_MORE)
+             .. refused, now and at every call from here on, until both are reset
+     } */
+
+/* What stands at answer[CFDP_ANSWER_NUMBER] where more is wanted; no receiver refuses with 1. */
+enum { CFDP_RECEIVE_MORE = 1 };
+
+/* Takes bytes of a fragment into the window, behind the `filled` bytes that are there, up to the byte that completes a NAK or with which
+   it is refused, or all of them: how many it took. `filled` is then how many bytes of the next PDU are in the window. The
+   answer is 1 and zeros where more is wanted; a NAK as cfdp_nak_read shows it, its area in the window; or 2 to 8, 21, and 22 as
+   soon as a header is there whose PDU is longer than the window. A refusal leaves `filled` as the refused bytes, so that it is given
+   again, and no byte taken, by every further call. Any window and any count has its answer. */
+size_t cfdp_receive(uint8_t window[CFDP_WINDOW_LEN], size_t *filled, const uint8_t *fragment, size_t fragment_len,
+                    uint64_t answer[CFDP_ANSWER_LEN]);
 
 /* ---- writing a NAK: direction and length are worked out, and handed back in the header; start above end is accepted */
 

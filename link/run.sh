@@ -1,6 +1,7 @@
 #!/bin/sh
 # The library as its users have it. Compiles the header file by itself, strictly, as C and as C++; links the archive for this machine into a
-# program in C and one in Rust, and compares what they print with expected.txt, which was written by hand from document 01.
+# program in C and one in Rust, and compares what they print with expected.txt, which was written by hand from document 01. A second program
+# in C receives a stream in fragments, and is compared with receive.txt, written by hand likewise.
 # What the machine has no compiler for is said and not run; any failure fails.
 set -eu
 cd "$(dirname "$0")/.."
@@ -52,6 +53,11 @@ fi
 # shellcheck disable=SC2086
 cc -std=c99 $strict -O2 -Iinclude link/c/main.c "$archive" -o "$out/c"
 printed C "$out/c"
+# shellcheck disable=SC2086
+cc -std=c99 $strict -O2 -Iinclude link/c/receive.c "$archive" -o "$out/receive"
+"$out/receive" >"$out/receive.txt"
+diff link/receive.txt "$out/receive.txt" || fail "the receiver in C printed something else"
+say "the receiver in C prints what document 02 says"
 
 if here cargo; then
     cargo build --quiet --release --offline --locked --manifest-path link/rust/Cargo.toml --target-dir "$out/cargo"

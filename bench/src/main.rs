@@ -2,6 +2,7 @@
 mod directive;
 mod header;
 mod nak;
+mod stream;
 mod timing;
 
 use nak::Sample;
@@ -34,6 +35,7 @@ fn main() {
         let length = sample.bytes.len();
         sample.beginnings(&format!("read each beginning of a NAK of {length} bytes"));
     }
+    stream::table();
 }
 
 /// The Rust's PDUs go through its table of 256 remainders; it also has the form without one.

@@ -31,6 +31,14 @@ pub fn row<A, B>(what: &str, mut rust: impl FnMut() -> A, mut port: impl FnMut()
     println!("| {what} | {rust:.1} | {port:.1} | {middle:.2} | {least:.2} |");
 }
 
+/// The median time of a call, for a table without a second side.
+pub fn median<A>(mut call: impl FnMut() -> A) -> f64 {
+    let turns = turns(&mut call);
+    let mut times: Vec<f64> = (0..SAMPLES).map(|_| per_call(&mut call, turns)).collect();
+    times.sort_by(f64::total_cmp);
+    times[SAMPLES / 2]
+}
+
 /// How many calls take as long as a sample; finding it warms up, too.
 fn turns<A>(call: &mut impl FnMut() -> A) -> u32 {
     let mut turns = 1;

@@ -1,7 +1,7 @@
 #!/bin/sh
 # Checks the port's driver and the comparer that ../build.sh built: the port gives the answers of
-# own.expected, port and Rust agree on document 01's cases, on the lines of silent.txt and on the
-# replay list, and the comparer counts each wrong answer that is put in on the way.
+# own.expected, port and Rust agree on document 01's cases, on the lines of silent.txt, on streams
+# that are cut and on the replay list, and the comparer counts each wrong answer that is put in on the way.
 # The last line is 'N passed, M failed'; ends with 1 if anything failed.
 set -eu
 . "$(dirname "$0")/expect.sh"
@@ -87,6 +87,20 @@ sed '0,/ sum [0-9]*/s// sum 4294967296/' "$work/answers" > "$work/changed"
 "$here/document02.py" "$work/asked" "$work/changed" | tail -n 1 > "$work/seen" || true
 echo "188188 checked, 1 differ" > "$work/expected"
 expect "document02.py with a wrong answer" "$work/expected" "$work/seen"
+
+# streamed NAME DRIVER COUNT: the receiver on 300 streams, each cut in four ways
+streamed() {
+    PORT=$2 "$here/streams.sh" 1 300 | tail -n 1 > "$work/seen" || true
+    echo "seed 1: 300 streams in four ways, $3 answers differ" > "$work/expected"
+    expect "$1" "$work/expected" "$work/seen"
+}
+
+streamed "streams" "$bin/port" 0
+# One call of the second answer takes a byte more.
+printf '#!/bin/sh\n"%s/port" | sed "2s/ 1 more/ 2 more/"\n' "$bin" > "$work/wrong"
+streamed "streams with a wrong answer" "$work/wrong" 1
+printf '#!/bin/sh\n"%s/port" | sed "7s/window [0-9]*/window 65536/"\n' "$bin" > "$work/wrong"
+streamed "streams with another window" "$work/wrong" 1
 
 # replayed NAME LIST EXPECTED: the last line of a replay
 replayed() {

@@ -2,3 +2,4 @@
 pub mod Given
 pub mod Shown
 pub mod Pairs
+pub mod Received

@@ -26,6 +26,7 @@ pub mod compare;
 pub mod eofs;
 pub mod headers;
 pub mod read;
+pub mod receive;
 pub mod reserve;
 pub mod write;
 

@@ -9,3 +9,4 @@ pub mod OneToOne
 pub mod Judging
 pub mod Staged
 pub mod Demand3
+pub mod Waiting

@@ -6,6 +6,7 @@ pub mod Writing
 pub mod Verifying
 pub mod Codes
 pub mod Directives
+pub mod Behind
 pub mod Pdus
 pub mod PdusBack
 pub mod Sizes

@@ -12,3 +12,4 @@ pub mod Cases
 pub mod Demands
 pub mod RoundTrip
 pub mod Archive
+pub mod Streams

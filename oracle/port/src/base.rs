@@ -39,7 +39,11 @@ pub fn max(record: &Record, size: usize) -> Said {
 }
 
 pub fn read(bytes: &[u8]) -> Said {
-    let numbers = ask::<19>(|a| ffi::nak_read(bytes, a))?;
+    shown(ask(|a| ffi::nak_read(bytes, a))?, bytes)
+}
+
+/// A NAK by its numbers, with its requests in the bytes that it was read from.
+pub fn shown(numbers: [u64; 19], bytes: &[u8]) -> Said {
     let [.., start, end, area, data_end, count] = numbers;
     let record = record_of(&numbers)?;
     let area = bytes.get(area as usize..data_end as usize);

@@ -54,6 +54,7 @@ mod raw {
         pub fn cfdp_nak_read(bytes: *const u8, len: usize, answer: Into);
         pub fn cfdp_nak_pair(area: *const u8, len: usize, large: bool, index: usize, pair: *mut [u64; 2]) -> bool;
         pub fn cfdp_nak_pairs(area: *const u8, len: usize, large: bool, numbers: *mut u64, room: usize) -> usize;
+        pub fn cfdp_receive(window: *mut [u8; 2048], filled: *mut usize, fragment: *const u8, len: usize, answer: Into) -> usize;
         pub fn cfdp_nak_write(shape: Shape, ids: Ids, start: u64, end: u64, buf: *mut u8, len: usize, answer: Into);
         pub fn cfdp_nak_write_normal(shape: Shape, ids: Ids, start: u64, end: u64, numbers: *const u32, count: usize, buf: *mut u8, len: usize, answer: Into);
         pub fn cfdp_nak_write_large(shape: Shape, ids: Ids, start: u64, end: u64, numbers: *const u64, count: usize, buf: *mut u8, len: usize, answer: Into);
@@ -112,6 +113,17 @@ pub fn nak_pair(area: &[u8], large: bool, index: usize, pair: &mut [u64; 2]) -> 
 pub fn nak_pairs(area: &[u8], large: bool, numbers: &mut [u64]) -> usize {
     let (to, room) = (numbers.as_mut_ptr(), numbers.len());
     unsafe { raw::cfdp_nak_pairs(area.as_ptr(), area.len(), large, to, room) }
+}
+
+/// How many bytes of the fragment were taken. 1 for more wanted; else as of `nak_read`.
+pub fn receive(
+    window: &mut [u8; 2048],
+    filled: &mut usize,
+    fragment: &[u8],
+    answer: &mut Answer,
+) -> usize {
+    let (at, len) = (fragment.as_ptr(), fragment.len());
+    unsafe { raw::cfdp_receive(window, filled, at, len, answer) }
 }
 
 /// REC, written length

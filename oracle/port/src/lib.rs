@@ -1,6 +1,8 @@
 //! The port's library in the words of the line protocol: `ffi` calls it, `answer` takes its answers
-//! apart, `base` has one function for each command of the base, and `later` one for each of the others.
+//! apart, `base` has one function for each command of the base, `later` one for each of the others, and `receive` the
+//! receiver's calls.
 pub mod answer;
 pub mod base;
 pub mod ffi;
 pub mod later;
+pub mod receive;

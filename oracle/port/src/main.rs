@@ -1,7 +1,7 @@
 //! The port's driver: the line protocol that the top of tools/src/bin/oracle.rs sets out, answered by
 //! the port's library.
 use port::answer::Said;
-use port::{base, later};
+use port::{base, later, receive};
 use std::io::Result;
 use tools::serve::serve;
 use tools::{Command, show};
@@ -30,6 +30,7 @@ fn perform(command: Command) -> String {
         Ack(bytes) => asked(later::ack(&bytes)),
         WriteEof(record, eof, buf) => lending(buf, |b| later::write_eof(&record, &eof, b)),
         WriteAck(record, ack, buf) => lending(buf, |b| later::write_ack(&record, &ack, b)),
+        Receive(fragments) => asked(receive::receive(&fragments)),
         _ => show::LACKING.to_string(),
     }
 }

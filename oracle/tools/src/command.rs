@@ -23,6 +23,7 @@ pub enum Command {
     WriteEof(Record, Eof, Vec<u8>),
     WriteAck(Record, Ack, Vec<u8>),
     WriteMetadata(Record, Metadata, Vec<u8>),
+    Receive(Vec<Vec<u8>>),
 }
 
 /// A NAK to be written.
@@ -75,7 +76,7 @@ impl Command {
         matches!(
             self,
             Eof(_) | Ack(_) | Metadata(_) | WriteEof(..) | WriteAck(..) | WriteMetadata(..)
-        )
+        ) || matches!(self, Receive(_))
     }
 }
 
@@ -105,6 +106,7 @@ fn command(words: &mut Words) -> Parsed<Command> {
         "weof" => WriteEof(words.record()?, eof(words)?, words.bytes()?),
         "wack" => WriteAck(words.record()?, ack(words)?, words.bytes()?),
         "wmetadata" => WriteMetadata(words.record()?, metadata(words)?, words.bytes()?),
+        "receive" => Receive(words.fragments()?),
         other => return Err(format!("command {other}")),
     })
 }

@@ -13,6 +13,8 @@ pub mod replay;
 pub mod rust;
 pub mod serve;
 pub mod show;
+#[cfg(feature = "rust")]
+pub mod streams;
 
 pub use command::Command;
 

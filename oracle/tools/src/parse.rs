@@ -81,6 +81,15 @@ impl<'a> Words<'a> {
         }
     }
 
+    /// BYTES BYTES .., the rest of the line
+    pub fn fragments(&mut self) -> Parsed<Vec<Vec<u8>>> {
+        let first = self.word("bytes")?;
+        std::iter::once(first)
+            .chain(self.0.by_ref())
+            .map(bytes)
+            .collect()
+    }
+
     /// LIST
     pub fn list(&mut self) -> Parsed<List> {
         let word = self.word("list")?;

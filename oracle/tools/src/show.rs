@@ -207,6 +207,14 @@ pub fn refused(numbers: &[u64]) -> String {
 /// The answer to a command that the port does not have.
 pub const LACKING: &str = "bad the port has no such command";
 
+/// The answer to a command that the Rust does not have.
+pub const NOT_THE_RUSTS: &str = "bad the Rust has no such command";
+
+/// receive: its calls, and the window that is left
+pub fn received(calls: &[String], filled: usize, window: u16) -> String {
+    format!("ok {} filled {filled} window {window}", calls.join(" ; "))
+}
+
 /// The answer of a command that was lent a buffer.
 pub fn with_buffer(answer: &str, buf: &[u8]) -> String {
     format!("{answer} buf {}", hex(buf))

@@ -54,6 +54,14 @@
 //!                                                    MetadataPduCreator::new and write_to_slice
 //! ```
 //!
+//! One command is for the port alone, and the oracle answers 'bad' and the reason:
+//!
+//! ```text
+//! receive BYTES BYTES ..                             a receiver in the fresh state is offered each
+//!                                                    fragment in calls until it is used up or
+//!                                                    refused, an empty one once
+//! ```
+//!
 //! NAME, NAME (source, destination) and OPTIONS are written as BYTES are. The port's driver lacks
 //! metadata, wmetadata and wsized: it answers 'bad' and the reason.
 //!
@@ -98,6 +106,9 @@
 //! metadata                   ok REC closure BIT type TYPE size SIZE names HEX HEX options HEX
 //!                               walked TYPE:HEX TYPE:HEX ..   (one line)
 //! weof, wack, wmetadata      ok REC written LENGTH
+//! receive                    ok CALL ; CALL ; .. filled N window CHECKSUM
+//!                               CALL is 'TAKEN more', 'TAKEN refused NO NUMBERS', or 'TAKEN nak' and
+//!                               the words of read behind 'ok'; CHECKSUM is of the window at the end
 //! ```
 //!
 //! REC is the header as read or as handed back. 'requests none' is the missing iterator of an empty

@@ -30,6 +30,8 @@ pub fn compared(command: &Command) -> Option<bool> {
         Ack(bytes) => ack::reading(bytes),
         WriteEof(record, eof, _) => eof::writing(record, eof),
         WriteAck(record, ack, _) => ack::writing(record, ack),
+        // The Rust has no such command.
+        Receive(_) => false,
         WriteSized(..) | Metadata(_) | WriteMetadata(..) => return None,
     })
 }

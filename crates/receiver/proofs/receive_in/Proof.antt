@@ -1,0 +1,162 @@
+-- `receiver::receive_in` meets its contract. The loop's invariant: a call with what is left of the fragment, from the window as it is, gives what the whole call gives.
+-- Its measure is how many of the four named lengths are not yet in the window, so that it turns at most four times: a turn is a reading that is short.
+-- Assumes nothing.
+use Prim.Native.Nat.{_-_, _≤_}
+use mathlib.Core.Path.{_≡_, refl, sym, ap, _∙_}
+use native.Mathlib.Omega.{arith}
+use lib.ListN.{length, drop, length-take, length-drop}
+use lib.Seq.{length-sets}
+use Rattle.receiver.specs.Receiving.{windowLength, stateOf, call}
+use Rattle.receiver.specs.Within.{statusAnswer}
+use Rattle.receiver.proofs.Calls.{moreBy, more-none, waits-for, gives-nak, gives-refusal, gives-more, turn}
+use Rattle.receiver.proofs.Waits.{there, turn-less}
+use borrow.Author.Needs.{needs}
+use Rattle.receiver.proofs.receive_in.Statement.{statement}
+use Rattle.receiver.proofs.receive_in.Tie as tie
+
+abbrev Inv-loop : tie.InvT-loop
+Inv-loop window₀ filled fragment at₀ taken₀ window at taken =
+    (taken ≤ length fragment) × (length window ≡ windowLength) × (moreBy taken (call (stateOf window at) (drop taken fragment)) ≡ call (stateOf window₀ filled) fragment)
+
+abbrev μ-loop : tie.MeasureT-loop
+μ-loop window₀ filled fragment at₀ taken₀ window at taken = 4 - there window at
+
+loop-holds : tie.Need-loop-holds Inv-loop μ-loop
+loop-holds c = (search needs, c .before .before .pre, more-none _)
+
+status-of-requires : tie.Need-status-of-requires Inv-loop μ-loop
+status-of-requires c κs = search needs
+
+enum-known-said : tie.Need-enum-known-said Inv-loop μ-loop
+enum-known-said c = search needs
+
+same-length : tie.Need-same-length Inv-loop μ-loop
+same-length c = search needs
+
+returns : tie.Need-returns Inv-loop μ-loop
+returns c =
+    let l = c .before .before .before .before .before .loop in
+    gives-nak _ _ _ _ _ (l .inv .2) _ (ap statusAnswer (sym (c .before .said .given .1)) ∙ c .before .before .before .status-of .ensures)
+
+enum-known-said-2 : tie.Need-enum-known-said-2 Inv-loop μ-loop
+enum-known-said-2 c = search needs
+
+same-length-2 : tie.Need-same-length-2 Inv-loop μ-loop
+same-length-2 c = search needs
+
+returns-2 : tie.Need-returns-2 Inv-loop μ-loop
+returns-2 c =
+    let l = c .before .before .before .before .before .loop in
+    gives-refusal _ _ _ _ _ (l .inv .2) _ (ap statusAnswer (sym (c .before .said2 .given .1)) ∙ c .before .before .before .status-of .ensures)
+
+enum-known-said-3 : tie.Need-enum-known-said-3 Inv-loop μ-loop
+enum-known-said-3 c = search needs
+
+sub-wanted : tie.Need-sub-wanted Inv-loop μ-loop
+sub-wanted c =
+    let l = c .before .before .before .before .before .loop in
+    let g = c .before .said3 .given in
+    let v = waits-for (l .window) (l .at) (g .0 .0) (g .0 .1 .0) (l .inv .1) (ap statusAnswer (sym (g .1)) ∙ c .before .before .before .status-of .ensures) in
+    omega arith
+
+sub-left : tie.Need-sub-left Inv-loop μ-loop
+sub-left c = search needs
+
+add-there : tie.Need-add-there Inv-loop μ-loop
+add-there c =
+    let l = c .before .before .before .before .before .before .loop in
+    let g = c .before .before .said3 .given in
+    let v = waits-for (l .window) (l .at) (g .0 .0) (g .0 .1 .0) (l .inv .1) (ap statusAnswer (sym (g .1)) ∙ c .before .before .before .before .status-of .ensures) in
+    omega arith
+
+sub-store : tie.Need-sub-store Inv-loop μ-loop
+sub-store c = search needs
+
+part-store-start : tie.Need-part-store-start Inv-loop μ-loop
+part-store-start c = search needs
+
+part-store-end : tie.Need-part-store-end Inv-loop μ-loop
+part-store-end c = search needs
+
+store-requires : tie.Need-store-requires Inv-loop μ-loop
+store-requires c κs =
+    let l = c .before .before .before .before .before .before .before .before .loop in
+    let g = c .before .before .before .before .said3 .given in
+    let v = waits-for (l .window) (l .at) (g .0 .0) (g .0 .1 .0) (l .inv .1) (ap statusAnswer (sym (g .1)) ∙ c .before .before .before .before .before .before .status-of .ensures) in
+    simp (length-take, length-drop) (omega arith)
+
+same-length-3 : tie.Need-same-length-3 Inv-loop μ-loop
+same-length-3 c =
+    let l = c .before .before .before .before .before .before .before .before .before .before .before .loop in
+    ap length (c .before .before .store .ensures) ∙ simp length-sets (search needs)
+
+returns-3 : tie.Need-returns-3 Inv-loop μ-loop
+returns-3 c =
+    let l = c .before .before .before .before .before .before .before .before .before .before .before .loop in
+    gives-more _ _ _ _ _ (l .inv .2) (l .inv .1) (l .inv .0) _ _ (ap statusAnswer (sym (c .before .before .before .before .before .before .before .said3 .given .1)) ∙ c .before .before .before .before .before .before .before .before .before .status-of .ensures) _ (c .before .before .before .before .before .if1 .taken) (c .before .before .store .ensures)
+
+add-next : tie.Need-add-next Inv-loop μ-loop
+add-next c = search needs
+
+sub-store-2 : tie.Need-sub-store-2 Inv-loop μ-loop
+sub-store-2 c = search needs
+
+part-store-start-2 : tie.Need-part-store-start-2 Inv-loop μ-loop
+part-store-start-2 c = search needs
+
+part-store-end-2 : tie.Need-part-store-end-2 Inv-loop μ-loop
+part-store-end-2 c = search needs
+
+store-requires-2 : tie.Need-store-requires-2 Inv-loop μ-loop
+store-requires-2 c κs =
+    let l = c .before .before .before .before .before .before .before .before .loop in
+    let g = c .before .before .before .before .said3 .given in
+    let v = waits-for (l .window) (l .at) (g .0 .0) (g .0 .1 .0) (l .inv .1) (ap statusAnswer (sym (g .1)) ∙ c .before .before .before .before .before .before .status-of .ensures) in
+    simp (length-take, length-drop) (omega arith)
+
+loop-less : tie.Need-loop-less Inv-loop μ-loop
+loop-less c =
+    let l = c .before .before .before .before .before .before .before .before .before .before .before .loop in
+    turn-less _ _ _ _ _ _ _ _ (l .inv .1) (l .inv .0) (ap statusAnswer (sym (c .before .before .before .before .before .before .before .said3 .given .1)) ∙ c .before .before .before .before .before .before .before .before .before .status-of .ensures) refl (c .before .before .before .before .before .if1 .left) (c .before .before .store2 .ensures)
+
+loop-again : tie.Need-loop-again Inv-loop μ-loop
+loop-again c =
+    let l = c .before .before .before .before .before .before .before .before .before .before .before .loop in
+    let g = c .before .before .before .before .before .before .before .said3 .given in
+    let v = waits-for (l .window) (l .at) (g .0 .0) (g .0 .1 .0) (l .inv .1) (ap statusAnswer (sym (g .1)) ∙ c .before .before .before .before .before .before .before .before .before .status-of .ensures) in (
+      search needs,
+      ap length (c .before .before .store2 .ensures) ∙ simp length-sets (l .inv .1),
+      turn _ _ _ _ _ (l .inv .2) (l .inv .1) (l .inv .0) _ _ (ap statusAnswer (sym (c .before .before .before .before .before .before .before .said3 .given .1)) ∙ c .before .before .before .before .before .before .before .before .before .status-of .ensures) _ _ refl (v .below) (c .before .before .before .before .before .if1 .left) (c .before .before .store2 .ensures),
+    )
+
+pub receive-in-spec : {M : Type 1} → statement M
+receive-in-spec =
+    tie.close
+    (tie.spec
+    Inv-loop
+    μ-loop
+    loop-holds
+    status-of-requires
+    enum-known-said
+    same-length
+    returns
+    enum-known-said-2
+    same-length-2
+    returns-2
+    enum-known-said-3
+    sub-wanted
+    sub-left
+    add-there
+    sub-store
+    part-store-start
+    part-store-end
+    store-requires
+    same-length-3
+    returns-3
+    add-next
+    sub-store-2
+    part-store-start-2
+    part-store-end-2
+    store-requires-2
+    loop-less
+    loop-again)
