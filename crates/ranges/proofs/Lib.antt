@@ -1,0 +1,11 @@
+-- Laws of the definitions. The proof of a function stands in the folder of its name.
+pub mod Tests
+pub mod Runs
+pub mod Sources
+pub mod Sides
+pub mod Laying
+pub mod Merging
+pub mod Spans
+pub mod Ordering
+pub mod Transactions
+mod Cases

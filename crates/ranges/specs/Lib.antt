@@ -1,0 +1,8 @@
+-- The definitions that the promises cite; read them in this order.
+pub mod Runs
+pub mod Pairs
+pub mod Merging
+pub mod Laying
+pub mod Order
+pub mod Transaction
+pub mod Within
