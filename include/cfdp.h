@@ -161,6 +161,10 @@ enum {
     CFDP_ANSWER_ACK_CONDITION = 16,
     CFDP_ANSWER_ACK_STATUS = 17,
     CFDP_ANSWER_ACK_STOP = 18,
+    /* of cfdp_differ */
+    CFDP_ANSWER_DIFFER_METADATA_1 = 1,
+    CFDP_ANSWER_DIFFER_METADATA_2 = 2,
+    CFDP_ANSWER_DIFFER_RANGES = 3,
     /* behind the HEADER of cfdp_nak_reserve; the length is the P that the NAK will have */
     CFDP_ANSWER_RESERVED_PAIRS = 15,
     CFDP_ANSWER_RESERVED_AREA = 16,
@@ -306,6 +310,19 @@ void cfdp_nak_compare_normal(const uint8_t *bytes, size_t bytes_len, const uint8
 void cfdp_nak_compare_large(const uint8_t *bytes, size_t bytes_len, const uint8_t shape[CFDP_SHAPE_LEN],
                             const uint64_t ids[CFDP_IDS_LEN], uint64_t start, uint64_t end, const uint64_t *numbers,
                             size_t count, uint64_t answer[CFDP_ANSWER_LEN]);
+
+/* ---- two NAKs of one transaction beside each other */
+
+/* Compares the NAKs at the front of two buffers, whatever follows them: whether the first asks for metadata (its first pair is
+   0, 0), whether the second does, and how many ranges of bytes only one of them asks for. Into ranges, in rising order, go
+   the longest such ranges, three numbers for each: the first byte, the first byte after, and 1 or 2, the NAK that asks. The
+   numbers behind them stay as they were, and a refused call changes none. A pair is the first byte asked for and the first
+   byte after; scope, destination, flags, widths and a part of a pair at the end do not matter. Or the reader's refusals,
+   of the first NAK and then of the second; 18 where a pair but that for metadata has no start below its end or a start
+   before the end of the pair before, of the first NAK and then of the second: the NAK and the pair, both from 1; 19; 20 where
+   the ranges outnumber the whole threes of ranges_len. */
+void cfdp_differ(const uint8_t *first, size_t first_len, const uint8_t *second, size_t second_len, uint64_t *ranges,
+                 size_t ranges_len, uint64_t answer[CFDP_ANSWER_LEN]);
 
 /* ---- EOF */
 

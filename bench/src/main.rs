@@ -1,4 +1,5 @@
 //! Times port and Rust on the same inputs, by turns, and prints the medians as a table in Markdown.
+mod differ;
 mod directive;
 mod header;
 mod nak;
@@ -29,6 +30,7 @@ fn main() {
         directive::eof(crc, true, &format!(" with a fault location{about}"));
         directive::ack(crc, about);
     }
+    differ::row_of(1000);
     // 16 bytes and 8 for each pair: NAKs of 24 and of 1,000 bytes.
     for pairs in [1, 123] {
         let sample = Sample::new(pairs, false);

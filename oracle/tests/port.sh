@@ -101,6 +101,19 @@ printf '#!/bin/sh\n"%s/port" | sed "2s/ 1 more/ 2 more/"\n' "$bin" > "$work/wron
 streamed "streams with a wrong answer" "$work/wrong" 1
 printf '#!/bin/sh\n"%s/port" | sed "7s/window [0-9]*/window 65536/"\n' "$bin" > "$work/wrong"
 streamed "streams with another window" "$work/wrong" 1
+# Two NAKs compared: by hand, and by chance against the document, byte by byte, written a second time.
+"$bin/port" < "$here/differ.txt" > "$work/seen"
+expect "differ.txt" "$here/differ.expected" "$work/seen"
+"$here/differ.py" list 1 100000 > "$work/asked"
+"$bin/port" < "$work/asked" > "$work/answers"
+"$here/differ.py" check "$work/asked" "$work/answers" | tail -n 1 > "$work/seen" || true
+echo "100000 checked, 0 differ" > "$work/expected"
+expect "differ.py, 100000 pairs of NAKs" "$work/expected" "$work/seen"
+# Another side in the first answer that has a range.
+sed '0,/,1,/s//,2,/' "$work/answers" > "$work/changed"
+"$here/differ.py" check "$work/asked" "$work/changed" | tail -n 1 > "$work/seen" || true
+echo "100000 checked, 1 differ" > "$work/expected"
+expect "differ.py with a wrong answer" "$work/expected" "$work/seen"
 
 # replayed NAME LIST EXPECTED: the last line of a replay
 replayed() {

@@ -2,3 +2,4 @@
 mod Given
 mod Shown
 mod Pairs
+mod Differing

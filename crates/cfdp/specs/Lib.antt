@@ -3,3 +3,4 @@ pub mod Given
 pub mod Shown
 pub mod Pairs
 pub mod Received
+pub mod Differing

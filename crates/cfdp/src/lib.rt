@@ -23,6 +23,7 @@ use header::pdu::WriteResult;
 
 pub mod acks;
 pub mod compare;
+pub mod differ;
 pub mod eofs;
 pub mod headers;
 pub mod read;

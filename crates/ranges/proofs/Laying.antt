@@ -12,6 +12,7 @@ use lib.ListN.{length, set, drop, length-append}
 use lib.Seq.{sets, length-sets, sets-eq}
 use borrow.Author.Tests.{lt-ltb, le-ltb, eq-eqb, ne-eqb}
 use Rattle.fields.specs.Choice.{if_then_else_}
+use Rattle.fields.proofs.BigEndian.{sets-append}
 use Rattle.ranges.specs.declared.tape.Open.{Open}
 use Rattle.ranges.specs.Runs.{Run, range, inFront, ApartFrom}
 use Rattle.ranges.specs.Laying.{wide, numbersOf, flat}
@@ -71,12 +72,6 @@ length-laid labelled s i [] = refl
 length-laid labelled s i (r ∷ rs) = length-laid labelled (placed labelled s i r) (i + 1) rs ∙ length-placed labelled s i r
 
 -- ---- all of them, where there is room
-
-sets-append : (xs ys s : List ℕ) (k : ℕ) → sets s k (xs ++ ys) ≡ sets (sets s k xs) (k + length xs) ys
-sets-append [] ys s k = let e : k + 0 ≡ k = add-zero k in rw e
-sets-append (x ∷ xs) ys s k =
-    let e : suc k + length xs ≡ k + suc (length xs) = omega arith in
-    sets-append xs ys (set s k x) (suc k) ∙ ap (λ (j : ℕ). sets (sets (set s k x) (suc k) xs) j ys) e
 
 length-numbers : (labelled : Bool) (r : Run) → length (numbersOf labelled r) ≡ wide labelled
 length-numbers true (range from to l) = refl

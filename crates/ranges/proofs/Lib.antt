@@ -8,4 +8,7 @@ pub mod Merging
 pub mod Spans
 pub mod Ordering
 pub mod Transactions
+pub mod Differing
+pub mod Differences
+pub mod Demands
 mod Cases

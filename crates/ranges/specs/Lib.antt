@@ -5,4 +5,6 @@ pub mod Merging
 pub mod Laying
 pub mod Order
 pub mod Transaction
+pub mod Differing
 pub mod Within
+pub mod Demands

@@ -5,10 +5,14 @@ use mathlib.Core.List.{List, [], _∷_}
 use lib.Dec.{leb, ltb, eqb}
 use lib.ListN.{length, drop}
 use lib.Seq.{sets}
+use Rattle.fields.specs.Answer.{Answer, andThen}
 use Rattle.fields.specs.Choice.{if_then_else_}
+use Rattle.fields.specs.Staged.{run}
 use Rattle.header.specs.declared.flags.LargeFileFlag.{LargeFileFlag}
 use Rattle.header.specs.Size.{sizeWidth}
 use Rattle.nak.specs.Nak.{pairSize}
+use Rattle.nak.specs.declared.Nak.{Nak}
+use Rattle.nak.specs.Reading.{readingNak}
 use Rattle.nak.specs.Requests.{pairsFrom}
 use Rattle.ranges.specs.declared.side.Source.{Source}
 use Rattle.ranges.specs.declared.side.Source.the-variants.{Area, Numbers}
@@ -18,6 +22,8 @@ use Rattle.ranges.specs.Pairs.{twos}
 use Rattle.ranges.specs.Order.{metadata}
 use Rattle.ranges.specs.Merging.{largest}
 use Rattle.ranges.specs.Laying.{wide, numbersOf}
+use Rattle.ranges.specs.Transaction.{sameTransaction}
+use Rattle.ranges.specs.Differing.{Compared, requestsIn, comparingPairs}
 
 -- ---- where pairs stand
 
@@ -80,3 +86,9 @@ turnedOpen o at l = if eqb (o .label) l then o else record { from = at; label = 
 -- and the numbers then
 unfoldable pub turnedInto : Bool → List ℕ → Open → ℕ → ℕ → List ℕ
 turnedInto labelled s o at l = if eqb (o .label) l then s else closedInto labelled s o at
+
+-- ---- two NAKs compared
+
+-- comparing, of a first NAK that was read from s
+unfoldable pub comparingRead : Nak → List ℕ → List ℕ → ℕ → Answer Compared
+comparingRead m s t room = andThen (run readingNak t) (λ n. comparingPairs (sameTransaction (m .header) (n .header)) (requestsIn m s) (requestsIn n t) room)

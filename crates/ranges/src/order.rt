@@ -9,6 +9,11 @@ use header::LargeFileFlag;
 use nak::requests::NextRequest;
 use nak::requests::RequestCursor;
 
+// Pairs are counted from 1, the metadata pair too.
+const FIRST_PAIR: usize = 1;
+
+const SECOND_PAIR: usize = 2;
+
 // Where the pairs behind the metadata pair begin, and the number of the first of them.
 pub struct Begin {
     pub at: usize,
@@ -29,17 +34,26 @@ fn behind_metadata(area: &[u8], file: LargeFileFlag) -> Begin
     let cursor = RequestCursor { at: 0 };
     let found = cursor.next(area, file);
     match found {
-        NextRequest::End => Begin { at: 0, number: 1 },
+        NextRequest::End => Begin {
+            at: 0,
+            number: FIRST_PAIR,
+        },
         NextRequest::Pair { start, end, next } => {
             if start != 0 {
-                return Begin { at: 0, number: 1 };
+                return Begin {
+                    at: 0,
+                    number: FIRST_PAIR,
+                };
             }
             if end != 0 {
-                return Begin { at: 0, number: 1 };
+                return Begin {
+                    at: 0,
+                    number: FIRST_PAIR,
+                };
             }
             Begin {
                 at: next.at,
-                number: 2,
+                number: SECOND_PAIR,
             }
         }
     }
@@ -83,7 +97,7 @@ pub(crate) fn asked_in(area: &[u8], file: LargeFileFlag) -> Asked
     let number = begin.number;
     let wrong = first_out_of_order(area, file, start, number);
     Asked {
-        metadata: number == 2,
+        metadata: number == SECOND_PAIR,
         start,
         wrong,
     }

@@ -64,6 +64,7 @@ mod raw {
         pub fn cfdp_nak_compare(bytes: *const u8, len: usize, shape: Shape, ids: Ids, start: u64, end: u64, answer: Into);
         pub fn cfdp_nak_compare_normal(bytes: *const u8, len: usize, shape: Shape, ids: Ids, start: u64, end: u64, numbers: *const u32, count: usize, answer: Into);
         pub fn cfdp_nak_compare_large(bytes: *const u8, len: usize, shape: Shape, ids: Ids, start: u64, end: u64, numbers: *const u64, count: usize, answer: Into);
+        pub fn cfdp_differ(first: *const u8, first_len: usize, second: *const u8, second_len: usize, ranges: *mut u64, ranges_len: usize, answer: Into);
         pub fn cfdp_eof_read(bytes: *const u8, len: usize, answer: Into);
         pub fn cfdp_eof_write(shape: Shape, ids: Ids, condition: u8, file_checksum: u32, file_size: u64, fault: bool, fault_width: u8, fault_value: u64, buf: *mut u8, len: usize, answer: Into);
         pub fn cfdp_ack_read(bytes: *const u8, len: usize, answer: Into);
@@ -260,4 +261,11 @@ pub fn ack_write(header: &Header, ack: &Ack, buf: &mut [u8], answer: &mut Answer
     } = ack;
     let (at, len) = (buf.as_mut_ptr(), buf.len());
     unsafe { raw::cfdp_ack_write(shape, ids, of, condition, status, at, len, answer) }
+}
+
+/// whether each asks for metadata, ranges
+pub fn differ(first: &[u8], second: &[u8], ranges: &mut [u64], answer: &mut Answer) {
+    let (one, two) = ((first.as_ptr(), first.len()), (second.as_ptr(), second.len()));
+    let (at, len) = (ranges.as_mut_ptr(), ranges.len());
+    unsafe { raw::cfdp_differ(one.0, one.1, two.0, two.1, at, len, answer) }
 }

@@ -1,8 +1,11 @@
 //! The port's library in the words of the line protocol: `ffi` calls it, `answer` takes its answers
 //! apart, `base` has one function for each command of the base, `later` one for each of the others, and `receive` the
 //! receiver's calls.
+//! apart, `base` has one function for each command of the base, `later` one for each of the others that
+//! the Rust has too, and `differ` compares two NAKs.
 pub mod answer;
 pub mod base;
+pub mod differ;
 pub mod ffi;
 pub mod later;
 pub mod receive;

@@ -1,7 +1,7 @@
 //! The port's driver: the line protocol that the top of tools/src/bin/oracle.rs sets out, answered by
 //! the port's library.
 use port::answer::Said;
-use port::{base, later, receive};
+use port::{base, differ, later, receive};
 use std::io::Result;
 use tools::serve::serve;
 use tools::{Command, show};
@@ -31,6 +31,7 @@ fn perform(command: Command) -> String {
         WriteEof(record, eof, buf) => lending(buf, |b| later::write_eof(&record, &eof, b)),
         WriteAck(record, ack, buf) => lending(buf, |b| later::write_ack(&record, &ack, b)),
         Receive(fragments) => asked(receive::receive(&fragments)),
+        Differ(first, second, lent) => differ::differ(&first, &second, lent),
         _ => show::LACKING.to_string(),
     }
 }

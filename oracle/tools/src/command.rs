@@ -24,6 +24,8 @@ pub enum Command {
     WriteAck(Record, Ack, Vec<u8>),
     WriteMetadata(Record, Metadata, Vec<u8>),
     Receive(Vec<Vec<u8>>),
+    /// Two buffers, and how many numbers are lent.
+    Differ(Vec<u8>, Vec<u8>, usize),
 }
 
 /// A NAK to be written.
@@ -75,8 +77,15 @@ impl Command {
         use Command::*;
         matches!(
             self,
-            Eof(_) | Ack(_) | Metadata(_) | WriteEof(..) | WriteAck(..) | WriteMetadata(..)
-        ) || matches!(self, Receive(_))
+            Eof(_)
+                | Ack(_)
+                | Metadata(_)
+                | WriteEof(..)
+                | WriteAck(..)
+                | WriteMetadata(..)
+                | Receive(_)
+                | Differ(..)
+        )
     }
 }
 
@@ -107,6 +116,7 @@ fn command(words: &mut Words) -> Parsed<Command> {
         "wack" => WriteAck(words.record()?, ack(words)?, words.bytes()?),
         "wmetadata" => WriteMetadata(words.record()?, metadata(words)?, words.bytes()?),
         "receive" => Receive(words.fragments()?),
+        "differ" => Differ(words.bytes()?, words.bytes()?, words.lent()?),
         other => return Err(format!("command {other}")),
     })
 }

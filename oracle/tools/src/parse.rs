@@ -90,6 +90,14 @@ impl<'a> Words<'a> {
             .collect()
     }
 
+    /// LENT
+    pub fn lent(&mut self) -> Parsed<usize> {
+        match self.number("how many numbers are lent")? {
+            count if count <= MAX_REPEAT => Ok(count),
+            more => Err(format!("{more} lent numbers")),
+        }
+    }
+
     /// LIST
     pub fn list(&mut self) -> Parsed<List> {
         let word = self.word("list")?;

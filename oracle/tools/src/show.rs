@@ -207,12 +207,21 @@ pub fn refused(numbers: &[u64]) -> String {
 /// The answer to a command that the port does not have.
 pub const LACKING: &str = "bad the port has no such command";
 
-/// The answer to a command that the Rust does not have.
-pub const NOT_THE_RUSTS: &str = "bad the Rust has no such command";
-
 /// receive: its calls, and the window that is left
 pub fn received(calls: &[String], filled: usize, window: u16) -> String {
     format!("ok {} filled {filled} window {window}", calls.join(" ; "))
+}
+
+/// The answer to a command that is for the port alone.
+pub const NOT_IN_RUST: &str = "bad the Rust has no such command";
+
+/// The answer of a command that was lent numbers, with all of them as they stand afterwards.
+pub fn with_numbers(answer: &str, lent: &[u64]) -> String {
+    let words: Vec<String> = lent.iter().map(u64::to_string).collect();
+    match words[..] {
+        [] => format!("{answer} lent -"),
+        _ => format!("{answer} lent {}", words.join(",")),
+    }
 }
 
 /// The answer of a command that was lent a buffer.

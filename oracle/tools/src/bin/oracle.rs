@@ -65,6 +65,13 @@
 //! NAME, NAME (source, destination) and OPTIONS are written as BYTES are. The port's driver lacks
 //! metadata, wmetadata and wsized: it answers 'bad' and the reason.
 //!
+//! Some are for the port alone, and the oracle answers them with 'bad' and the reason:
+//!
+//! ```text
+//! differ BYTES BYTES LENT            two NAKs compared (document 02, C-03); LENT is how many numbers
+//!                                    are lent for the ranges, each of them 7 before the call
+//! ```
+//!
 //! # Answers
 //!
 //! The answer to a command of the base begins with 'in' or 'out': whether document 01 compares port
@@ -109,6 +116,9 @@
 //! receive                    ok CALL ; CALL ; .. filled N window CHECKSUM
 //!                               CALL is 'TAKEN more', 'TAKEN refused NO NUMBERS', or 'TAKEN nak' and
 //!                               the words of read behind 'ok'; CHECKSUM is of the window at the end
+//! differ                     ok metadata BIT BIT ranges COUNT lent N,N,..
+//!                            refused NO NUMBERS lent N,N,..   (all lent numbers after the call, '-'
+//!                               for none)
 //! ```
 //!
 //! REC is the header as read or as handed back. 'requests none' is the missing iterator of an empty

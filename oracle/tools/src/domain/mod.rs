@@ -31,7 +31,7 @@ pub fn compared(command: &Command) -> Option<bool> {
         WriteEof(record, eof, _) => eof::writing(record, eof),
         WriteAck(record, ack, _) => ack::writing(record, ack),
         // The Rust has no such command.
-        Receive(_) => false,
+        Receive(_) | Differ(..) => false,
         WriteSized(..) | Metadata(_) | WriteMetadata(..) => return None,
     })
 }
