@@ -320,7 +320,14 @@ void cfdp_nak_compare_large(const uint8_t *bytes, size_t bytes_len, const uint8_
    byte after; scope, destination, flags, widths and a part of a pair at the end do not matter. Or the reader's refusals,
    of the first NAK and then of the second; 18 where a pair but that for metadata has no start below its end or a start
    before the end of the pair before, of the first NAK and then of the second: the NAK and the pair, both from 1; 19; 20 where
-   the ranges outnumber the whole threes of ranges_len. */
+   the ranges outnumber the whole threes of ranges_len.
+
+   Room. The ranges never outnumber the requests of both NAKs together, the pairs for metadata left out. So with three numbers
+   for each of these 20 is never given; and as the two readings count the pairs, those for metadata too, this is enough:
+
+     cfdp_nak_read(first, first_len, one);
+     cfdp_nak_read(second, second_len, two);
+     ranges_len = 3 * (one[CFDP_ANSWER_NAK_PAIRS] + two[CFDP_ANSWER_NAK_PAIRS]); */
 void cfdp_differ(const uint8_t *first, size_t first_len, const uint8_t *second, size_t second_len, uint64_t *ranges,
                  size_t ranges_len, uint64_t answer[CFDP_ANSWER_LEN]);
 

@@ -11,4 +11,5 @@ pub mod Transactions
 pub mod Differing
 pub mod Differences
 pub mod Demands
+pub mod Room
 mod Cases

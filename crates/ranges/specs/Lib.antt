@@ -8,3 +8,4 @@ pub mod Transaction
 pub mod Differing
 pub mod Within
 pub mod Demands
+pub mod Room
