@@ -1,4 +1,4 @@
-/* The CFDP codec for headers, NAKs, EOFs and ACKs (CCSDS 727.0-B-5) for C and C++: the functions of libcfdp.a, which link/archive.sh proves
+/* The CFDP codec for headers, NAKs, EOFs, ACKs and Metadata PDUs (CCSDS 727.0-B-5) for C and C++: the functions of libcfdp.a, which link/archive.sh proves
    and makes for this machine.
 
    Every function gives one proved answer to every value of its parameters. Nothing allocates or panics, and nothing is read
@@ -42,7 +42,7 @@
      P = answer[CFDP_ANSWER_HEADER_LENGTH] + answer[CFDP_ANSWER_DATA_LENGTH];
 
    The data of a PDU stops at P or, with the CRC flag, two bytes before it, where the checksum stands: CFDP_ANSWER_NAK_STOP,
-   CFDP_ANSWER_EOF_STOP and CFDP_ANSWER_ACK_STOP are that place, and not P.
+   CFDP_ANSWER_EOF_STOP, CFDP_ANSWER_ACK_STOP and CFDP_ANSWER_METADATA_STOP are that place, and not P.
 
    A stream of PDUs is framed by P alone. Read the header, with more bytes for as long as it is refused with 1; wait until P
    bytes are there; read these P bytes as a PDU; go on at P, whether they were accepted or refused. A header that is refused
@@ -161,6 +161,21 @@ enum {
     CFDP_ANSWER_ACK_CONDITION = 16,
     CFDP_ANSWER_ACK_STATUS = 17,
     CFDP_ANSWER_ACK_STOP = 18,
+    /* behind the HEADER of cfdp_metadata_read: names and options are the bytes from their start up to their stop */
+    CFDP_ANSWER_METADATA_CLOSURE = 15,
+    CFDP_ANSWER_METADATA_CHECKSUM_TYPE = 16,
+    CFDP_ANSWER_METADATA_FILE_SIZE = 17,
+    CFDP_ANSWER_METADATA_SOURCE = 18,
+    CFDP_ANSWER_METADATA_SOURCE_STOP = 19,
+    CFDP_ANSWER_METADATA_DESTINATION = 20,
+    CFDP_ANSWER_METADATA_DESTINATION_STOP = 21,
+    CFDP_ANSWER_METADATA_OPTIONS = 22,
+    CFDP_ANSWER_METADATA_STOP = 23,
+    /* of cfdp_metadata_option, which answers no header: the next is 0 where no option is left */
+    CFDP_ANSWER_OPTION_TYPE = 1,
+    CFDP_ANSWER_OPTION_START = 2,
+    CFDP_ANSWER_OPTION_STOP = 3,
+    CFDP_ANSWER_OPTION_NEXT = 4,
     /* of cfdp_differ */
     CFDP_ANSWER_DIFFER_METADATA_1 = 1,
     CFDP_ANSWER_DIFFER_METADATA_2 = 2,
@@ -354,6 +369,30 @@ void cfdp_ack_read(const uint8_t *bytes, size_t bytes_len, uint64_t answer[CFDP_
    is none of 0, 1 and 2 is written as 3, unrecognized: HEADER, the written length; or 13, 3, 4, 14, 21, 16, 17, 11. */
 void cfdp_ack_write(const uint8_t shape[CFDP_SHAPE_LEN], const uint64_t ids[CFDP_IDS_LEN], uint8_t directive,
                     uint8_t condition, uint8_t status, uint8_t *buf, size_t buf_len, uint64_t answer[CFDP_ANSWER_LEN]);
+
+/* ---- Metadata */
+
+/* Reads a Metadata PDU at the front of the bytes, whatever follows it: HEADER, closure requested, checksum type, file size, where the source's
+   name starts and stops, where the destination's does, where the options' area does (and the data with it); or 1 to 8, 21, 30, 25 with the
+   offset of the name's length byte or of the option's type byte. The source's name reaches from bytes + answer[CFDP_ANSWER_METADATA_SOURCE] up
+   to bytes + answer[CFDP_ANSWER_METADATA_SOURCE_STOP], and so do the others. A name is bytes, of any value, with no zero behind it. */
+void cfdp_metadata_read(const uint8_t *bytes, size_t bytes_len, uint64_t answer[CFDP_ANSWER_LEN]);
+
+/* The option at a place of an options' area: its type, where its value starts and stops, where the next begins, all counted from the area's
+   start; or 25 with the place, where it is cut, which no area of an accepted PDU has. At the end of the area, and behind it, all are 0. The
+   first stands at 0:
+
+     for (at = 0; cfdp_metadata_option(area, area_len, at, answer), answer[CFDP_ANSWER_OPTION_NEXT] != 0;
+          at = answer[CFDP_ANSWER_OPTION_NEXT]) .. */
+void cfdp_metadata_option(const uint8_t *area, size_t area_len, size_t at, uint64_t answer[CFDP_ANSWER_LEN]);
+
+/* Writes a Metadata PDU, the large file flag as given; direction and length are worked out, and handed back in the header. Names and options are
+   lent as bytes, the options each with its type and its length in front: HEADER, the written length; or 13, 3, 4, 14, 21, 30, 29, 31, 25 with the
+   offset from the options' start, 32, 11. */
+void cfdp_metadata_write(const uint8_t shape[CFDP_SHAPE_LEN], const uint64_t ids[CFDP_IDS_LEN], bool closure,
+                         uint8_t checksum_type, uint64_t file_size, const uint8_t *source, size_t source_len,
+                         const uint8_t *destination, size_t destination_len, const uint8_t *options, size_t options_len,
+                         uint8_t *buf, size_t buf_len, uint64_t answer[CFDP_ANSWER_LEN]);
 
 #ifdef __cplusplus
 }

@@ -1,8 +1,8 @@
 #!/bin/sh
-# Port and Rust on the same commands: those of `commands exhaustive` once, those of `commands base SEED`
-# and `commands eof SEED` for each seed. Builds both first. Prints the seeds, what differs, and the counts;
+# Port and Rust on the same commands: those of `commands exhaustive` once, those of `commands base SEED`,
+# `commands eof SEED` and `commands metadata SEED` for each seed. Builds both first. Prints the seeds, what differs, and the counts;
 # ends with 1 if anything differs inside the domain.
-#   ./differential.sh [SEED ...]       by default the seeds 1 to 12, more than thirteen million commands
+#   ./differential.sh [SEED ...]       by default the seeds 1 to 12, more than fourteen million commands
 set -eu
 here=$(cd "$(dirname "$0")" && pwd)
 bin=$here/target/release
@@ -12,7 +12,7 @@ bin=$here/target/release
 failed=0
 echo "exhaustive"
 "$bin/commands" exhaustive | "$bin/compare" "$bin/oracle" "$bin/port" || failed=1
-for list in base eof; do
+for list in base eof metadata; do
     echo "$list, seeds $*"
     for seed; do
         "$bin/commands" "$list" "$seed"

@@ -72,7 +72,7 @@ pub fn ack(crc: bool, about: &str) {
 }
 
 /// The library's answer to a call that it accepts.
-fn asked(call: impl FnOnce(&mut Answer)) -> Answer {
+pub fn asked(call: impl FnOnce(&mut Answer)) -> Answer {
     let mut answer = [0; ANSWER_LEN];
     call(&mut answer);
     accepted(&answer);
@@ -80,7 +80,7 @@ fn asked(call: impl FnOnce(&mut Answer)) -> Answer {
 }
 
 /// Times both writers, and hands back the bytes, which must be the same.
-fn written(
+pub fn written(
     what: &str,
     rust: impl Fn(&mut [u8]) -> usize,
     port: impl Fn(&mut [u8], &mut Answer),

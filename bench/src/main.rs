@@ -2,6 +2,7 @@
 mod differ;
 mod directive;
 mod header;
+mod metadata;
 mod nak;
 mod stream;
 mod timing;
@@ -31,6 +32,10 @@ fn main() {
         directive::ack(crc, about);
     }
     differ::row_of(1000);
+    for (crc, about) in [(false, ""), (true, ", CRC")] {
+        metadata::metadata(crc, 0, about);
+        metadata::metadata(crc, 8, &format!(" with 8 options{about}"));
+    }
     // 16 bytes and 8 for each pair: NAKs of 24 and of 1,000 bytes.
     for pairs in [1, 123] {
         let sample = Sample::new(pairs, false);

@@ -1,5 +1,5 @@
 #!/usr/bin/env python3
-"""Document 02's rules for reading and writing an EOF and an ACK (C-01), written a second time and held
+"""Document 02's rules for reading and writing an EOF, an ACK (C-01) and a Metadata PDU (C-11), written a second time and held
 against the port's answers to a list of commands, refusals and the buffer after the call too:
 
     document02.py COMMANDS ANSWERS
@@ -15,8 +15,9 @@ from document01 import checksum, file_data, header, number
 WIDTHS = (1, 2, 4, 8)
 KNOWN_DIRECTIVES = (4, 5, 6, 7, 8, 9, 12)
 RESERVED_CONDITIONS = (12, 13)
-EOF, FINISHED, ACK = 4, 5, 6
+EOF, FINISHED, ACK, METADATA = 4, 5, 6, 7
 ENTITY_ID = 6
+CHECKSUM_TYPES = (0, 1, 2, 3, 15)
 
 
 class Refused(Exception):
@@ -77,6 +78,41 @@ def ack(b):
     refuse_if(condition in RESERVED_CONDITIONS, 16)
     refuse_if(of not in (EOF, FINISHED), 17)
     return f"{rec} of {of} code {condition} status {status}"
+
+
+def behind(b, at, head, stop):
+    """Where the field at a place stops, `head` bytes before its value, the last of them its length; 25 where it runs
+    past `stop`."""
+    refuse_if(at + head > stop or at + head + b[at + head - 1] > stop, 25, at)
+    return at + head + b[at + head - 1]
+
+
+def walked(b, at, stop):
+    """Type and value of each option."""
+    options = []
+    while at < stop:
+        end = behind(b, at, 2, stop)
+        options.append((b[at], b[at + 2:end]))
+        at = end
+    return options
+
+
+def hexed(b):
+    return b.hex() or "-"
+
+
+def metadata(b):
+    h, stop, width, rec = directive(b, METADATA)
+    first = h + 2 + width
+    refuse_if(stop < first, 6, stop, first)
+    kind = b[h + 1] % 16
+    refuse_if(kind not in CHECKSUM_TYPES, 30)
+    second = behind(b, first, 1, stop)
+    options = behind(b, second, 1, stop)
+    shown = "".join(f" {tag}:{hexed(value)}" for tag, value in walked(b, options, stop))
+    names = f"{hexed(b[first + 1:second])} {hexed(b[second + 1:options])}"
+    closure, size = b[h + 1] >> 6 & 1, number(b, h + 2, width)
+    return f"{rec} closure {closure} type {kind} size {size} names {names} options {hexed(b[options:stop])} walked{shown}"
 
 
 # Writing
@@ -163,10 +199,27 @@ def write_ack(words, buf):
     return record.written(1 if of == EOF else 0, data, buf)
 
 
+def write_metadata(words, buf):
+    record, closure, kind, size = Record(words[:14]), int(words[14]), int(words[15]), int(words[16])
+    source, destination, options = [bytes_of(word) for word in words[17:20]]
+    record.judge()
+    refuse_if(kind not in CHECKSUM_TYPES, 30)
+    refuse_if(size >= 256**record.size_width, 29)
+    for name in source, destination:
+        refuse_if(len(name) > 255, 31)
+    walked(options, 0, len(options))
+    data = bytes([METADATA, closure << 6 | kind]) + size.to_bytes(record.size_width, "big")
+    for name in source, destination:
+        data += bytes([len(name)]) + name
+    data += options
+    refuse_if(len(data) + 2 * record.crc > 65535, 32)
+    return record.written(0, data, buf)
+
+
 # Commands and answers
 
-READERS = {"eof": eof, "ack": ack}
-WRITERS = {"weof": write_eof, "wack": write_ack}
+READERS = {"eof": eof, "ack": ack, "metadata": metadata}
+WRITERS = {"weof": write_eof, "wack": write_ack, "wmetadata": write_metadata}
 
 
 def bytes_of(word):

@@ -41,7 +41,7 @@ expect "own.txt" "$here/own.expected" "$work/seen"
 compared "document 01's cases" "$work/cases" "$bin/port" \
     '53 commands: 45 compared, 8 outside the domain, 0 differing\n0\n'
 compared "silent.txt" "$here/silent.txt" "$bin/port" \
-    '53 commands: 6 compared, 41 outside the domain, 6 that the port lacks, 0 differing\n0\n'
+    '63 commands: 8 compared, 53 outside the domain, 2 that the port lacks, 0 differing\n0\n'
 compared "a line that is no command" "$here/smoke.txt" "$bin/port" \
     '55 commands: 46 compared, 9 outside the domain, 1 differing\n1\n'
 
@@ -114,6 +114,12 @@ sed '0,/,1,/s//,2,/' "$work/answers" > "$work/changed"
 "$here/differ.py" check "$work/asked" "$work/changed" | tail -n 1 > "$work/seen" || true
 echo "100000 checked, 1 differ" > "$work/expected"
 expect "differ.py with a wrong answer" "$work/expected" "$work/seen"
+second metadata "100438 checked, 0 differ"
+# The first answer of a Metadata PDU with another file size.
+sed '0,/ size [0-9]*/s// size 1/' "$work/answers" > "$work/changed"
+"$here/document02.py" "$work/asked" "$work/changed" | tail -n 1 > "$work/seen" || true
+echo "100438 checked, 1 differ" > "$work/expected"
+expect "document02.py with a wrong Metadata PDU" "$work/expected" "$work/seen"
 
 # replayed NAME LIST EXPECTED: the last line of a replay
 replayed() {
@@ -123,14 +129,14 @@ replayed() {
 }
 
 "$bin/replay_list" > "$work/list" 2> "$work/said"
-replayed "replay list" "$work/list" "5571 replayed, 0 differ"
+replayed "replay list" "$work/list" "6230 replayed, 0 differ"
 # The byte at 100 is in an answer.
 {
     head -c 100 "$work/list"
     printf '\377'
     tail -c +102 "$work/list"
 } > "$work/changed"
-replayed "replay list with a wrong answer" "$work/changed" "5571 replayed, 1 differ"
+replayed "replay list with a wrong answer" "$work/changed" "6230 replayed, 1 differ"
 
 echo "$passed passed, $failed failed"
 [ "$failed" -eq 0 ]

@@ -26,6 +26,8 @@ use nak::reserve::ReserveResult;
 use nak::reserve::ReservedNak;
 use nak::write;
 
+mod pdus;
+
 // N's pair, 100 and 200, as the caller of a reserved NAK stores it.
 const PAIR: u64 = 0x64000000C8;
 
@@ -550,4 +552,8 @@ fn main() {
     eofs();
     refused_eofs();
     acks();
+    pdus::metadatas();
+    pdus::changed_metadatas();
+    pdus::refused_metadatas();
+    pdus::pdus();
 }

@@ -3,3 +3,4 @@ mod Given
 mod Shown
 mod Pairs
 mod Differing
+mod MetadataShown

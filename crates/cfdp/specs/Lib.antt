@@ -4,3 +4,4 @@ pub mod Shown
 pub mod Pairs
 pub mod Received
 pub mod Differing
+pub mod MetadataNumbers

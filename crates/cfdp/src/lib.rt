@@ -26,6 +26,7 @@ pub mod compare;
 pub mod differ;
 pub mod eofs;
 pub mod headers;
+pub mod metadatas;
 pub mod read;
 pub mod receive;
 pub mod reserve;

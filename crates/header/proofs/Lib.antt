@@ -7,6 +7,7 @@ pub mod Verifying
 pub mod Codes
 pub mod Directives
 pub mod Behind
+pub mod OwnData
 pub mod Pdus
 pub mod PdusBack
 pub mod Sizes

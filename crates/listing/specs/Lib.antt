@@ -1,2 +1,3 @@
--- The definition that the promise cites.
+-- The definitions that the promises cite.
 pub mod Listing
+pub mod Pdus

@@ -1,4 +1,4 @@
-// Prints a NAK, an EOF or an ACK, or why it is refused: of a NAK in document 01's words. What is printed is tested and not proved.
+// Prints a NAK, an EOF, an ACK or a Metadata PDU, or why it is refused: of a NAK in document 01's words. What is printed is tested and not proved.
 ghost use mathlib.Core.Path.{_≡_};
 ghost use Rattle.fields.specs.Refusal.{numbersOf};
 ghost use Rattle.fields.specs.Staged.{run};
@@ -14,6 +14,8 @@ use nak::requests::RequestCursor;
 
 pub mod acks;
 pub mod eofs;
+pub mod metadatas;
+pub mod pdus;
 
 // A word, up to two numbers, and the end of the line.
 fn print_line(word: &[u8], count: u8, first: u64, second: u64) {

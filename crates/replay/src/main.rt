@@ -6,10 +6,11 @@ mod directives;
 mod expected;
 mod headers;
 mod list;
+mod metadatas;
 mod naks;
 
 // The codes and the list's form stand in oracle/README.md.
-const MOST_CODE: u8 = 19;
+const MOST_CODE: u8 = 21;
 
 const MOST_NAMED: u64 = 20;
 
@@ -43,6 +44,8 @@ fn replayed(code: u8) -> bool {
         17 => directives::eof_write(),
         18 => directives::ack_read(),
         19 => directives::ack_write(),
+        20 => metadatas::metadata_read(),
+        21 => metadatas::metadata_write(),
         _ => false,
     }
 }

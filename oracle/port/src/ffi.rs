@@ -37,6 +37,17 @@ pub struct Ack {
     pub status: u8,
 }
 
+/// What a Metadata PDU says beside its header.
+#[derive(Default)]
+pub struct Metadata<'a> {
+    pub closure: bool,
+    pub checksum_type: u8,
+    pub file_size: u64,
+    pub source: &'a [u8],
+    pub destination: &'a [u8],
+    pub options: &'a [u8],
+}
+
 mod raw {
     use super::Answer;
 
@@ -69,6 +80,9 @@ mod raw {
         pub fn cfdp_eof_write(shape: Shape, ids: Ids, condition: u8, file_checksum: u32, file_size: u64, fault: bool, fault_width: u8, fault_value: u64, buf: *mut u8, len: usize, answer: Into);
         pub fn cfdp_ack_read(bytes: *const u8, len: usize, answer: Into);
         pub fn cfdp_ack_write(shape: Shape, ids: Ids, directive: u8, condition: u8, status: u8, buf: *mut u8, len: usize, answer: Into);
+        pub fn cfdp_metadata_read(bytes: *const u8, len: usize, answer: Into);
+        pub fn cfdp_metadata_option(area: *const u8, len: usize, at: usize, answer: Into);
+        pub fn cfdp_metadata_write(shape: Shape, ids: Ids, closure: bool, checksum_type: u8, file_size: u64, source: *const u8, source_len: usize, destination: *const u8, destination_len: usize, options: *const u8, options_len: usize, buf: *mut u8, len: usize, answer: Into);
     }
 }
 
@@ -261,6 +275,37 @@ pub fn ack_write(header: &Header, ack: &Ack, buf: &mut [u8], answer: &mut Answer
     } = ack;
     let (at, len) = (buf.as_mut_ptr(), buf.len());
     unsafe { raw::cfdp_ack_write(shape, ids, of, condition, status, at, len, answer) }
+}
+
+/// REC, closure requested, checksum type, file size, start and stop of both names and of the options' area
+pub fn metadata_read(bytes: &[u8], answer: &mut Answer) {
+    unsafe { raw::cfdp_metadata_read(bytes.as_ptr(), bytes.len(), answer) }
+}
+
+/// Type, start and stop of the value, where the next option begins; zeros at the end
+pub fn metadata_option(area: &[u8], at: usize, answer: &mut Answer) {
+    unsafe { raw::cfdp_metadata_option(area.as_ptr(), area.len(), at, answer) }
+}
+
+/// REC, written length
+pub fn metadata_write(header: &Header, metadata: &Metadata, buf: &mut [u8], answer: &mut Answer) {
+    let Header { shape, ids } = header;
+    let &Metadata {
+        closure,
+        checksum_type: kind,
+        file_size: size,
+        source,
+        destination: to,
+        options,
+    } = metadata;
+    let [from, to, more] = [source, to, options].map(|part| (part.as_ptr(), part.len()));
+    let (at, len) = (buf.as_mut_ptr(), buf.len());
+    unsafe {
+        raw::cfdp_metadata_write(
+            shape, ids, closure, kind, size, from.0, from.1, to.0, to.1, more.0, more.1, at, len,
+            answer,
+        )
+    }
 }
 
 /// whether each asks for metadata, ranges

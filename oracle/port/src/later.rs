@@ -6,7 +6,7 @@ use tools::make::header_len;
 use tools::{Field, Record, show};
 
 /// E of a header. The protocol does not show it for these PDUs, so it is checked here.
-fn stop_of(record: &Record) -> u64 {
+pub fn stop_of(record: &Record) -> u64 {
     let checksum = 2 * u64::from(record.crc);
     header_len(record) as u64 + u64::from(record.length) - checksum
 }

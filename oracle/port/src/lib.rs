@@ -3,9 +3,11 @@
 //! receiver's calls.
 //! apart, `base` has one function for each command of the base, `later` one for each of the others that
 //! the Rust has too, and `differ` compares two NAKs.
+//! apart, `base` has one function for each command of the base, `later` and `metadata` one for each of the others.
 pub mod answer;
 pub mod base;
 pub mod differ;
 pub mod ffi;
 pub mod later;
 pub mod receive;
+pub mod metadata;

@@ -1,7 +1,7 @@
 //! The port's driver: the line protocol that the top of tools/src/bin/oracle.rs sets out, answered by
 //! the port's library.
 use port::answer::Said;
-use port::{base, differ, later, receive};
+use port::{base, differ, later, metadata, receive};
 use std::io::Result;
 use tools::serve::serve;
 use tools::{Command, show};
@@ -30,9 +30,13 @@ fn perform(command: Command) -> String {
         Ack(bytes) => asked(later::ack(&bytes)),
         WriteEof(record, eof, buf) => lending(buf, |b| later::write_eof(&record, &eof, b)),
         WriteAck(record, ack, buf) => lending(buf, |b| later::write_ack(&record, &ack, b)),
+        Metadata(bytes) => asked(metadata::metadata(&bytes)),
+        WriteMetadata(record, said, buf) => {
+            lending(buf, |b| metadata::write_metadata(&record, &said, b))
+        }
         Receive(fragments) => asked(receive::receive(&fragments)),
         Differ(first, second, lent) => differ::differ(&first, &second, lent),
-        _ => show::LACKING.to_string(),
+        WriteSized(..) => show::LACKING.to_string(),
     }
 }
 

@@ -1,5 +1,5 @@
 //! What the makers of command lists share: numbers by chance, records, and PDUs as bytes.
-use crate::command::{Ack, Eof, Nak};
+use crate::command::{Ack, Eof, Metadata, Nak};
 use crate::domain::checksum;
 use crate::{Field, List, Record, Scope};
 
@@ -95,6 +95,38 @@ impl Random {
         }
     }
 
+    /// A good Metadata PDU, with a file size that the record's flag has room for; one in four has long names.
+    pub fn metadata(&mut self, record: &Record) -> Metadata {
+        let longest = if self.below(4) == 0 { 255 } else { 8 };
+        let [source_name, destination_name] = [(); 2].map(|()| self.name(longest));
+        let count = self.below(4);
+        Metadata {
+            closure: self.bit(),
+            checksum_type: self.one_of(&CHECKSUM_TYPES),
+            size: self.edge(8 * size_len(record) as u32),
+            source_name,
+            destination_name,
+            options: (0..count).flat_map(|_| self.option(6)).collect(),
+        }
+    }
+
+    /// A name of at most so many bytes, often none or as many.
+    pub fn name(&mut self, longest: u64) -> Vec<u8> {
+        let length = match self.below(4) {
+            0 => 0,
+            1 => longest,
+            _ => self.below(longest + 1),
+        };
+        self.bytes(length as usize)
+    }
+
+    /// An option, its value of at most so many bytes.
+    pub fn option(&mut self, longest: u64) -> Vec<u8> {
+        let value = self.name(longest);
+        let kind = self.one_of(&[0, 1, 2, 4, 5, 6, 0xaa]);
+        [&[kind, value.len() as u8], &value[..]].concat()
+    }
+
     /// A good ACK but for its code.
     pub fn ack(&mut self) -> Ack {
         Ack {
@@ -106,6 +138,9 @@ impl Random {
 }
 
 pub const WIDTHS: [u64; 4] = [1, 2, 4, 8];
+
+/// The Rust's list.
+pub const CHECKSUM_TYPES: [u8; 5] = [0, 1, 2, 3, 15];
 
 /// h
 pub fn header_len(record: &Record) -> usize {
@@ -187,6 +222,18 @@ pub fn ack_data(ack: &Ack) -> Vec<u8> {
     let subtype = u8::from(ack.directive == 5);
     let of = (ack.directive << 4) as u8 | subtype;
     vec![6, of, (ack.code << 4 | ack.status) as u8]
+}
+
+/// What follows the header in a Metadata PDU whose names have at most 255 bytes, less any checksum.
+pub fn metadata_data(record: &Record, metadata: &Metadata) -> Vec<u8> {
+    let mut data = vec![7, metadata.closure << 6 | metadata.checksum_type];
+    data.extend(&metadata.size.to_be_bytes()[8 - size_len(record)..]);
+    for name in [&metadata.source_name, &metadata.destination_name] {
+        data.push(name.len() as u8);
+        data.extend(name);
+    }
+    data.extend(&metadata.options);
+    data
 }
 
 /// The record's direction as the writer of such an ACK sets it.

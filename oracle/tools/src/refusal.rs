@@ -22,6 +22,8 @@ pub fn of_error(command: &Command, text: &str) -> Option<Vec<u64>> {
         "TooSmallForPduHeaderError" => (15, 0, 0, ""),
         "InvalidConditionCode" => (16, 0, 1, ""),
         "InvalidAckedDirectiveCodeError" => (17, 0, 1, ""),
+        "InvalidChecksumType" => (30, 0, 1, ""),
+        "TlvLvDataTooLargeError" => (31, 0, 1, ""),
         // Whatever is wrong with the fault location.
         "TlvLv" => return matches!(command, Command::Eof(_)).then(|| vec![28]),
         _ => return None,
@@ -46,6 +48,7 @@ fn expected(command: &Command) -> [&'static str; 2] {
     match command {
         Command::Eof(_) => ["expected Eof"; 2],
         Command::Ack(_) => ["expected Ack"; 2],
+        Command::Metadata(_) => ["expected Metadata"; 2],
         _ => ["expected Nak", "expected Ack"],
     }
 }
@@ -55,7 +58,7 @@ fn length_read(command: &Command) -> usize {
     use Command::*;
     match command {
         Header(bytes) | Read(bytes) | Verify(_, bytes) | Compare(bytes, _) => bytes.len(),
-        Eof(bytes) | Ack(bytes) => bytes.len(),
+        Eof(bytes) | Ack(bytes) | Metadata(bytes) => bytes.len(),
         _ => 0,
     }
 }

@@ -1,6 +1,6 @@
 //! The records of the replay list: commands with the Rust's answers, for a program that has no text.
 //! README.md sets out their form, under 'The replay list'.
-use crate::command::{Ack, Eof, Nak};
+use crate::command::{Ack, Eof, Metadata, Nak};
 use crate::{Command, List, Record, Scope, parse, refusal};
 
 /// What the Rust answers to a command inside the domain, in the words of the port's library.
@@ -11,6 +11,8 @@ pub struct Expected {
     pub buf: Option<Vec<u8>>,
     /// Start and end by turns.
     pub requests: Vec<u64>,
+    /// Type, start and stop of each option, counted from the area's start.
+    pub options: Vec<u64>,
 }
 
 impl Expected {
@@ -25,7 +27,11 @@ impl Expected {
                 answer: refusal::of_error(command, said)?,
                 buf,
                 requests: Vec::new(),
+                options: Vec::new(),
             });
+        }
+        if let Command::Metadata(_) = command {
+            return metadata_shown(said);
         }
         let shown: Vec<u64> = said.split(' ').filter_map(|w| w.parse().ok()).collect();
         let requests = match command {
@@ -37,6 +43,7 @@ impl Expected {
             answer,
             buf,
             requests,
+            options: Vec::new(),
         })
     }
 }
@@ -69,6 +76,48 @@ fn accepted(command: &Command, said: &str, mut shown: Vec<u64>) -> Vec<u64> {
     }
     shown.insert(0, 0);
     shown
+}
+
+/// What is accepted of a Metadata PDU: names and options as places, which follow from their lengths.
+fn metadata_shown(said: &str) -> Option<Expected> {
+    let (said, walked) = said.split_once(" walked")?;
+    let words: Vec<&str> = said.split(' ').collect();
+    let mut answer = vec![0];
+    for place in (1..15).chain([16, 18, 20]) {
+        answer.push(words.get(place)?.parse().ok()?);
+    }
+    let [large, entity, sequence] = [answer[5], answer[9], answer[11]];
+    let mut at = 4 + 2 * entity + sequence + 2 + 4 + 4 * large;
+    // A byte of length stands before each name.
+    for (word, before) in [(22, 1), (23, 1), (25, 0)] {
+        let start = at + before;
+        at = start + length(words.get(word)?)?;
+        answer.extend([start, at]);
+    }
+    Some(Expected {
+        answer,
+        buf: None,
+        requests: Vec::new(),
+        options: options_shown(walked)?,
+    })
+}
+
+/// How many bytes a word of hex is.
+fn length(hex: &str) -> Option<u64> {
+    Some(parse::bytes(hex).ok()?.len() as u64)
+}
+
+/// Type, start and stop of each option that was walked.
+fn options_shown(walked: &str) -> Option<Vec<u64>> {
+    let mut options = Vec::new();
+    let mut at = 0;
+    for option in walked.split_ascii_whitespace() {
+        let (kind, value) = option.split_once(':')?;
+        let stop = at + 2 + length(value)?;
+        options.extend([kind.parse().ok()?, at + 2, stop]);
+        at = stop;
+    }
+    Some(options)
 }
 
 /// Whether an EOF's answer shows a fault location, its width and its value.
@@ -113,7 +162,11 @@ pub fn encoded(command: &Command, expected: &Expected) -> Option<Vec<u8>> {
         WriteEof(record, eof, buf) => to.code(17).header(record).eof(eof).buffer(buf)?,
         Ack(bytes) => to.code(18).bytes(bytes),
         WriteAck(record, ack, buf) => to.code(19).header(record).ack(ack).buffer(buf)?,
-        _ => return None,
+        Metadata(bytes) => to.code(20).bytes(bytes),
+        WriteMetadata(record, metadata, buf) => {
+            to.code(21).header(record).metadata(metadata).buffer(buf)?
+        }
+        WriteSized(..) => return None,
     };
     encoder.expected(command, expected);
     Some(to.0)
@@ -158,6 +211,14 @@ impl Encoder {
     fn ack(&mut self, ack: &Ack) -> &mut Self {
         self.number(ack.directive, 1);
         self.number(ack.code, 1).number(ack.status, 1)
+    }
+
+    fn metadata(&mut self, metadata: &Metadata) -> &mut Self {
+        self.number(metadata.closure.into(), 1);
+        self.number(metadata.checksum_type.into(), 1);
+        self.number(metadata.size, 8).bytes(&metadata.source_name);
+        self.bytes(&metadata.destination_name)
+            .bytes(&metadata.options)
     }
 
     fn bytes(&mut self, bytes: &[u8]) -> &mut Self {
@@ -215,6 +276,10 @@ impl Encoder {
                 .iter()
                 .for_each(|n| _ = self.number(*n, 8));
         }
+        if let Command::Metadata(_) = command {
+            self.number(expected.options.len() as u64 / 3, 4);
+            expected.options.iter().for_each(|n| _ = self.number(*n, 8));
+        }
     }
 }
 
@@ -223,7 +288,7 @@ pub fn lent(command: &Command) -> &[u8] {
     use Command::*;
     match command {
         WriteHeader(_, buf) | Write(_, buf) | Reserve(_, _, buf) | Finish(_, _, _, buf) => buf,
-        WriteEof(_, _, buf) | WriteAck(_, _, buf) => buf,
+        WriteEof(_, _, buf) | WriteAck(_, _, buf) | WriteMetadata(_, _, buf) => buf,
         _ => &[],
     }
 }

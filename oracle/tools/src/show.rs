@@ -84,6 +84,17 @@ impl Display for Ack {
     }
 }
 
+/// CLOSURE TYPE SIZE NAME NAME OPTIONS
+impl Display for Metadata {
+    fn fmt(&self, f: &mut Formatter<'_>) -> Shown {
+        let parts = [&self.source_name, &self.destination_name, &self.options];
+        write!(f, "{} {} {}", self.closure, self.checksum_type, self.size)?;
+        parts
+            .iter()
+            .try_for_each(|part| write!(f, " {}", hex(part)))
+    }
+}
+
 /// FAULT
 pub fn fault(location: &Option<Field>) -> String {
     match location {

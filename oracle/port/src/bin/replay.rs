@@ -2,7 +2,7 @@
 //! Names each record that differs, by its place in the file; the last line is 'N replayed, M differ'.
 //! Ends with 1 if any differ, or if the list is not of its form.
 use port::answer::UNTOUCHED;
-use port::ffi::{self, ANSWER_LEN, Ack, Answer, Eof, Header};
+use port::ffi::{self, ANSWER_LEN, Ack, Answer, Eof, Header, Metadata};
 use std::io::{Read, Result, stdin};
 use std::process::ExitCode;
 
@@ -68,6 +68,17 @@ impl<'a> Parts<'a> {
         }
     }
 
+    fn metadata(&mut self) -> Metadata<'a> {
+        Metadata {
+            closure: self.number(1) != 0,
+            checksum_type: self.number(1) as u8,
+            file_size: self.number(8),
+            source: self.counted(),
+            destination: self.counted(),
+            options: self.counted(),
+        }
+    }
+
     fn ack(&mut self) -> Ack {
         Ack {
             directive: self.number(1) as u8,
@@ -86,6 +97,7 @@ struct Inputs<'a> {
     size: usize,
     eof: Eof,
     ack: Ack,
+    metadata: Metadata<'a>,
     bytes: &'a [u8],
     numbers: Vec<u64>,
     buf: Vec<u8>,
@@ -94,7 +106,7 @@ struct Inputs<'a> {
 
 fn inputs<'a>(code: u64, from: &mut Parts<'a>) -> Inputs<'a> {
     let mut to = Inputs::default();
-    if matches!(code, 3..=6 | 8..=15 | 17 | 19) {
+    if matches!(code, 3..=6 | 8..=15 | 17 | 19 | 21) {
         to.header.shape.copy_from_slice(from.bytes(10));
         to.length = from.number(2) as u16;
         to.header.ids = [from.number(8), from.number(8), from.number(8)];
@@ -108,9 +120,10 @@ fn inputs<'a>(code: u64, from: &mut Parts<'a>) -> Inputs<'a> {
     match code {
         17 => to.eof = from.eof(),
         19 => to.ack = from.ack(),
+        21 => to.metadata = from.metadata(),
         _ => (),
     }
-    if matches!(code, 1 | 2 | 4 | 7 | 13..=16 | 18) {
+    if matches!(code, 1 | 2 | 4 | 7 | 13..=16 | 18 | 20) {
         to.bytes = from.counted();
     }
     if matches!(code, 9 | 10 | 14 | 15) {
@@ -128,7 +141,7 @@ fn inputs<'a>(code: u64, from: &mut Parts<'a>) -> Inputs<'a> {
 
 /// Whether a call of that code is lent a buffer.
 fn lends(code: u64) -> bool {
-    matches!(code, 5 | 8..=12 | 17 | 19)
+    matches!(code, 5 | 8..=12 | 17 | 19 | 21)
 }
 
 /// Whether the next record's call gives what the record says.
@@ -145,6 +158,10 @@ fn replayed(from: &mut Parts) -> bool {
     if code == 7 {
         let count = from.number(4);
         same &= from.numbers(2 * count, 8) == requests(&answer, inputs.bytes);
+    }
+    if code == 20 {
+        let count = from.number(4);
+        same &= from.numbers(3 * count, 8) == options(&answer, inputs.bytes);
     }
     same
 }
@@ -196,6 +213,8 @@ fn call_later(code: u64, inputs: &mut Inputs, a: &mut Answer) {
         17 => ffi::eof_write(header, &inputs.eof, buf, a),
         18 => ffi::ack_read(bytes, a),
         19 => ffi::ack_write(header, &inputs.ack, buf, a),
+        20 => ffi::metadata_read(bytes, a),
+        21 => ffi::metadata_write(header, &inputs.metadata, buf, a),
         _ => (),
     }
 }
@@ -209,4 +228,26 @@ fn requests(answer: &Answer, bytes: &[u8]) -> Vec<u64> {
     let mut numbers = vec![UNTOUCHED; 2 * count];
     ffi::nak_pairs(&bytes[area..stop], answer[5] == 1, &mut numbers);
     numbers
+}
+
+/// Type, start and stop of each option of an accepted Metadata PDU; none of a refused one.
+fn options(answer: &Answer, bytes: &[u8]) -> Vec<u64> {
+    let mut numbers = Vec::new();
+    if answer[0] != 0 {
+        return numbers;
+    }
+    let area = &bytes[answer[22] as usize..answer[23] as usize];
+    let mut at = 0;
+    loop {
+        let mut option = [UNTOUCHED; ANSWER_LEN];
+        ffi::metadata_option(area, at, &mut option);
+        let [number, kind, start, stop, next, ..] = option;
+        if number != 0 || next == 0 {
+            // A walk that does not end where the area does shows a number of its own.
+            numbers.extend((at != area.len()).then_some(UNTOUCHED));
+            return numbers;
+        }
+        numbers.extend([kind, start, stop]);
+        at = next as usize;
+    }
 }

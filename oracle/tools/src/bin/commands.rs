@@ -4,6 +4,7 @@
 //! commands SEED           every command of the protocol, those of the later requests too
 //! commands base SEED      what port and Rust are both asked: src/lists/mod.rs names the parts
 //! commands eof SEED       the same of EOFs and ACKs
+//! commands metadata SEED  the same of Metadata PDUs
 //! commands exhaustive     all short inputs, and every (byte 0, byte 3) at the lengths that matter
 //! ```
 use std::io::{BufWriter, Error, Result, Write, stdout};
@@ -17,10 +18,11 @@ fn main() -> Result<()> {
         ["exhaustive"] => lists::exhaustive(out)?,
         ["base", seed] => lists::base(number(seed)?, out)?,
         ["eof", seed] => lists::eof_and_ack(number(seed)?, out)?,
+        ["metadata", seed] => lists::metadata(number(seed)?, out)?,
         [seed] => lists::whole(number(seed)?, out)?,
         _ => {
             return Err(Error::other(
-                "usage: commands [base | eof] SEED, or commands exhaustive",
+                "usage: commands [base | eof | metadata] SEED, or commands exhaustive",
             ));
         }
     }

@@ -63,7 +63,7 @@
 //! ```
 //!
 //! NAME, NAME (source, destination) and OPTIONS are written as BYTES are. The port's driver lacks
-//! metadata, wmetadata and wsized: it answers 'bad' and the reason.
+//! wsized: it answers 'bad' and the reason.
 //!
 //! Some are for the port alone, and the oracle answers them with 'bad' and the reason:
 //!

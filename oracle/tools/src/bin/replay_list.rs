@@ -22,6 +22,7 @@ fn main() -> Result<()> {
     let mut list = Vec::new();
     lists::base(SEED, &mut list)?;
     lists::eof_and_ack(SEED, &mut list)?;
+    lists::metadata(SEED, &mut list)?;
     let list = String::from_utf8(list).expect("a list is text");
     let mut chosen = Chosen::default();
     CASES.lines().for_each(|line| chosen.consider(line, true));
@@ -103,14 +104,14 @@ fn things(command: &Command, answer: &[u64], code: u8) -> Vec<String> {
     let amounts = amounts(command, answer);
     things.push(format!("{of} crc {crc} large {large} {amounts}"));
     // The others are refused before a code is judged.
-    if let [0 | 16 | 17 | 28, ..] = answer {
+    if let [0 | 16 | 17 | 28 | 30 | 31, ..] = answer {
         let codes = codes(command).into_iter();
         things.extend(codes.map(|(what, code)| format!("{of} {what} {code}")));
     }
     things
 }
 
-/// The codes of an EOF and of an ACK, and the fault location's type and width.
+/// The codes of an EOF, an ACK and a Metadata PDU, the fault location's type and width, and about how long names are.
 fn codes(command: &Command) -> Vec<(&'static str, u64)> {
     use Command::*;
     match command {
@@ -124,12 +125,37 @@ fn codes(command: &Command) -> Vec<(&'static str, u64)> {
             let width = eof.fault.map_or(0, |fault| fault.width);
             vec![("code", eof.code), ("width", width)]
         }
+        Metadata(bytes) => metadata_codes(data(bytes), bytes[0] & 1 == 1),
+        WriteMetadata(_, metadata, _) => {
+            let names = [&metadata.source_name, &metadata.destination_name];
+            let [source, destination] = names.map(|name| name.len().min(256) as u64 / 51);
+            vec![
+                ("type", metadata.checksum_type.into()),
+                ("closure", metadata.closure.into()),
+                ("source", source),
+                ("destination", destination),
+                ("options", u64::from(!metadata.options.is_empty())),
+            ]
+        }
         WriteAck(_, ack, _) => {
             let codes = [("of", ack.directive), ("code", ack.code)];
             [&codes[..], &[("status", ack.status)]].concat()
         }
         _ => Vec::new(),
     }
+}
+
+/// Closure flag and spare bits, checksum type, and the lengths of names and options by their places.
+fn metadata_codes(data: &[u8], large: bool) -> Vec<(&'static str, u64)> {
+    let names = if large { 10 } else { 6 };
+    let source = at(data, names);
+    let destination = at(data, names + 1 + source as usize);
+    vec![
+        ("upper", at(data, 1) >> 4),
+        ("type", at(data, 1) & 15),
+        ("source", source / 51),
+        ("destination", destination / 51),
+    ]
 }
 
 fn eof_codes(data: &[u8], large: bool) -> Vec<(&'static str, u64)> {
@@ -159,7 +185,7 @@ fn shape(command: &Command) -> (u8, u8) {
     use Command::*;
     match command {
         Crc(_) => (0, 0),
-        Header(bytes) | Read(bytes) | Eof(bytes) | Ack(bytes) => {
+        Header(bytes) | Read(bytes) | Eof(bytes) | Ack(bytes) | Metadata(bytes) => {
             let at = |k: usize| bytes.get(k).copied().unwrap_or(0);
             let flags = at(3) >> 3 & 1 | at(3) >> 6 & 2;
             (at(0) & 31 | flags << 5, at(3) & 0x77)
@@ -167,7 +193,7 @@ fn shape(command: &Command) -> (u8, u8) {
         Build(r) | Verify(r, _) | WriteHeader(r, _) | Max(r, _) => record_shape(r),
         Reserve(r, ..) | Finish(r, ..) => record_shape(r),
         Write(nak, _) | Compare(_, nak) => record_shape(&nak.record),
-        WriteEof(r, ..) | WriteAck(r, ..) => record_shape(r),
+        WriteEof(r, ..) | WriteAck(r, ..) | WriteMetadata(r, ..) => record_shape(r),
         _ => (0, 0),
     }
 }

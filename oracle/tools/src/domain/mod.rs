@@ -3,6 +3,7 @@
 //! command alone, by neither side's answer.
 mod ack;
 mod eof;
+mod metadata;
 
 use crate::command::{Command, Nak};
 use crate::make::{nak_len, pair_size};
@@ -30,9 +31,11 @@ pub fn compared(command: &Command) -> Option<bool> {
         Ack(bytes) => ack::reading(bytes),
         WriteEof(record, eof, _) => eof::writing(record, eof),
         WriteAck(record, ack, _) => ack::writing(record, ack),
+        Metadata(bytes) => metadata::reading(bytes),
+        WriteMetadata(record, metadata, _) => metadata::writing(record, metadata),
         // The Rust has no such command.
         Receive(_) | Differ(..) => false,
-        WriteSized(..) | Metadata(_) | WriteMetadata(..) => return None,
+        WriteSized(..) => return None,
     })
 }
 

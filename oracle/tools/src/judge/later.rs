@@ -61,6 +61,50 @@ const WRONG_EOFS_AND_ACKS: Lines = &[
     (ACK_FORWARD, "ok 0 1 0", "", Differ),
 ];
 
+/// Two empty names; checksum type 4; names that E cuts, and an option; a name of 256 bytes to be written.
+const METADATA: &str = "metadata 2000080001020307 00 00000009 00 00";
+const METADATA_4: &str = "metadata 2000080001020307 04 00000009 00 00";
+const CUT_NAME: &str = "metadata 2000080001020307 00 00000009 00 05 6162636465";
+const CUT_OPTION: &str = "metadata 20000b0001020307 00 00000009 00 00 020561";
+const SHOWN_METADATA: &str =
+    "ok 0 0 0 0 0 0 0 8 1 1 1 2 1 3 closure 0 type 0 size 9 names - - options - walked";
+const LONG_NAME: &str = "wmetadata 0 0 0 0 0 0 0 0 1 1 1 2 1 3 0 3 9 256*61 62 - 2*ee";
+const CUT_LENT: &str = "wmetadata 0 0 0 0 0 0 0 0 1 1 1 2 1 3 0 3 9 61 62 0205 2*ee";
+
+#[rustfmt::skip]
+const METADATAS: Lines = &[
+    (METADATA, SHOWN_METADATA, SHOWN_METADATA, Same(0)),
+    (METADATA_4, "err InvalidChecksumType 4", "refused 30", Same(30)),
+    (METADATA, "err InvalidDirectiveType 10 expected Metadata", "refused 7 10", Same(7)),
+    (METADATA, "err WrongDirectiveType 6 expected Metadata", "refused 8 6", Same(8)),
+    (LONG_NAME, "err TlvLvDataTooLargeError 256 buf eeee", "refused 31 buf eeee", Same(31)),
+    // Where C-11 departs from the Rust.
+    (CUT_NAME, "panic", "refused 25 14", Outside),
+    (CUT_OPTION, "ok 0", "refused 25 15", Outside),
+    (CUT_LENT, "err ToSliceTooSmall 2 19 buf eeee", "refused 25 0 buf eeee", Outside),
+];
+
+#[rustfmt::skip]
+const WRONG_METADATAS: Lines = &[
+    (METADATA, SHOWN_METADATA, "ok 0 0 0 0 0 0 0 8 1 1 1 2 1 3 closure 1 type 0 size 9 names - - options - walked", Differ),
+    (METADATA, SHOWN_METADATA, "refused 25 14", Differ),
+    (METADATA_4, "err InvalidChecksumType 4", "refused 30 4", Differ),
+    (METADATA, "err WrongDirectiveType 6 expected Eof", "refused 8 6", Differ),
+    (LONG_NAME, "err TlvLvDataTooLargeError 256 buf eeee", "refused 31 buf eeef", Differ),
+    // Outside the domain too.
+    (CUT_NAME, "panic", "panic", Differ),
+];
+
+#[test]
+fn metadata_pdus_are_compared_by_the_command_alone() {
+    judged(METADATAS);
+}
+
+#[test]
+fn a_wrong_metadata_pdu_differs() {
+    judged(WRONG_METADATAS);
+}
+
 #[test]
 fn eofs_and_acks_are_compared_by_the_command_alone() {
     judged(EOFS_AND_ACKS);

@@ -6,6 +6,7 @@ mod eof;
 mod exhaustive;
 mod later;
 mod limits;
+mod metadata;
 mod reading;
 mod writing;
 
@@ -53,6 +54,14 @@ pub fn eof_and_ack(seed: u64, out: &mut impl Write) -> Result<()> {
     eof::writes(random, out)?;
     ack::reads(random, out)?;
     ack::writes(random, out)
+}
+
+/// Metadata PDUs (document 02, C-11), which port and Rust are both asked.
+pub fn metadata(seed: u64, out: &mut impl Write) -> Result<()> {
+    let random = &mut Random(seed);
+    reading::directives(random, out, &["metadata"])?;
+    metadata::reads(random, out)?;
+    metadata::writes(random, out)
 }
 
 /// Checksums, and what a reader sees first; `readers` are the commands that are asked each directive.

@@ -1,0 +1,33 @@
+-- `cfdp::metadatas::cfdp_metadata_read` meets its contract: the reading, refused or accepted, as numbers.
+-- Assumes nothing.
+use mathlib.Core.Path.{sym, ap, _∙_}
+use Rattle.metadata.specs.Reading.{metadataAnswer}
+use Rattle.cfdp.specs.MetadataNumbers.{metadataNumbers}
+use Rattle.cfdp.proofs.Shown.{refused-shown, accepted-shown}
+use borrow.Author.Needs.{needs}
+use Rattle.cfdp.proofs.metadatas.cfdp_metadata_read.Statement.{statement}
+use Rattle.cfdp.proofs.metadatas.cfdp_metadata_read.Tie as tie
+
+from-bytes-requires : tie.Need-from-bytes-requires
+from-bytes-requires c κs = search needs
+
+enum-known-read : tie.Need-enum-known-read
+enum-known-read c = search needs
+
+show-refusal-requires : tie.Need-show-refusal-requires
+show-refusal-requires c κs = search needs
+
+enum-known-read-2 : tie.Need-enum-known-read-2
+enum-known-read-2 c = search needs
+
+show-metadata-requires : tie.Need-show-metadata-requires
+show-metadata-requires c κs = search needs
+
+returns : tie.Need-returns
+returns c = refused-shown metadataNumbers _ _ _ (ap metadataAnswer (sym (c .before .before .before .read .given .1)) ∙ c .before .before .before .before .before .from-bytes .ensures) (c .show-refusal .ensures)
+
+returns-2 : tie.Need-returns-2
+returns-2 c = accepted-shown metadataNumbers _ _ _ (ap metadataAnswer (sym (c .before .before .before .read2 .given .1)) ∙ c .before .before .before .before .before .from-bytes .ensures) (c .show-metadata .ensures)
+
+pub cfdp-metadata-read-spec : {M : Type 1} → statement M
+cfdp-metadata-read-spec = tie.close (tie.spec from-bytes-requires enum-known-read show-refusal-requires enum-known-read-2 show-metadata-requires returns returns-2)
