@@ -78,6 +78,10 @@
 /* The bytes of a receiver's window, which is the longest PDU that it takes. */
 #define CFDP_WINDOW_LEN 2048
 
+/* How many numbers the state of a log has, and the most ranges that it keeps. */
+#define CFDP_OWED_LEN 516
+#define CFDP_MOST_OWED 256
+
 /* What stands at answer[CFDP_ANSWER_NUMBER], and what follows it as answer[CFDP_ANSWER_FIRST] and answer[CFDP_ANSWER_SECOND]. */
 enum {
     CFDP_ACCEPTED = 0,
@@ -103,7 +107,7 @@ enum {
     CFDP_REFUSED_NO_ROOM = 20,          /* nothing; what is to be stored outnumbers the lent numbers */
     CFDP_REFUSED_NOT_A_DIRECTIVE = 21,  /* nothing; the PDU type is 1, file data */
     CFDP_REFUSED_PDU_LARGE = 22,        /* nothing; the PDU is longer than a receiver's window */
-    CFDP_REFUSED_RANGES = 23,           /* nothing; received ranges or the scope are out of order */
+    CFDP_REFUSED_RANGES = 23,           /* nothing; received ranges or the scope are out of order, or a log's memory is no state */
     CFDP_REFUSED_NO_REQUEST_FITS = 24,  /* nothing; a byte is missing, and the packet holds no request */
     CFDP_REFUSED_FIELD_CUT = 25,        /* the offset of the name or option that runs past its end */
     CFDP_REFUSED_ENTRY = 26,            /* the offset of the log's entry that is cut, of an unknown tag or of a wrong length */
@@ -184,7 +188,9 @@ enum {
     CFDP_ANSWER_RESERVED_PAIRS = 15,
     CFDP_ANSWER_RESERVED_AREA = 16,
     CFDP_ANSWER_RESERVED_STOP = 17,
-    CFDP_ANSWER_RESERVED_LENGTH = 18
+    CFDP_ANSWER_RESERVED_LENGTH = 18,
+    /* of cfdp_owed_run, behind a refusal's values and where nothing is refused: the offset where the run stands */
+    CFDP_ANSWER_OWED_AT = 3
 };
 
 /* The places of a shape: seven flags, three widths. */
@@ -199,6 +205,14 @@ enum {
     CFDP_SHAPE_SOURCE_WIDTH = 7,
     CFDP_SHAPE_SEQUENCE_WIDTH = 8,
     CFDP_SHAPE_DESTINATION_WIDTH = 9
+};
+
+/* The places of a log's state: the ranges, start and end by turns, from 0 on; what stands behind the last of them is 0. */
+enum {
+    CFDP_OWED_COUNT = 512,   /* how many ranges there are */
+    CFDP_OWED_KNOWN = 513,   /* 1 once a NAK was taken, and else this and the next two are 0 */
+    CFDP_OWED_SOURCE = 514,  /* of the first that was taken */
+    CFDP_OWED_SEQUENCE = 515 /* its transaction's sequence number */
 };
 
 /* The places of ids. */
@@ -393,6 +407,25 @@ void cfdp_metadata_write(const uint8_t shape[CFDP_SHAPE_LEN], const uint64_t ids
                          uint8_t checksum_type, uint64_t file_size, const uint8_t *source, size_t source_len,
                          const uint8_t *destination, size_t destination_len, const uint8_t *options, size_t options_len,
                          uint8_t *buf, size_t buf_len, uint64_t answer[CFDP_ANSWER_LEN]);
+
+/* ---- what is owed: a log of NAKs heard and ranges resent
+
+   An entry is a tag, a length of two bytes, big-endian, and so many bytes. Tag 1 is a NAK, and what lies behind its PDU is not looked
+   at; tag 2 is a range that was resent, its start and the first byte behind it, 8 bytes each. A state is CFDP_OWED_LEN numbers that
+   the caller keeps, all 0 before the first entry. It holds the longest ranges of the bytes that are owed, and so as few as there can
+   be. A refused entry leaves it as it was. Memory that is no state, with more than CFDP_MOST_OWED ranges or ranges that do not rise,
+   is refused with 23; no call leaves such a one of a state. */
+
+/* Takes the entry at the front of the bytes, whatever follows it; at is its offset in the log: VALUE, how many bytes it has, so that
+   the next begins there; or 23, 26, those of cfdp_nak_read, 18, 19, 27. */
+void cfdp_owed_entry(const uint8_t *bytes, size_t bytes_len, size_t at, uint64_t state[CFDP_OWED_LEN],
+                     uint64_t answer[CFDP_ANSWER_LEN]);
+
+/* Takes the entries of a log from the offset `from` on, one after the other, until its end or a refusal: CFDP_ACCEPTED, or the same
+   refusals with their values; and at CFDP_ANSWER_OWED_AT the offset of the end, or of the entry that was refused, before which the
+   state stands. */
+void cfdp_owed_run(const uint8_t *log, size_t log_len, size_t from, uint64_t state[CFDP_OWED_LEN],
+                   uint64_t answer[CFDP_ANSWER_LEN]);
 
 #ifdef __cplusplus
 }

@@ -4,6 +4,7 @@ mod directive;
 mod header;
 mod metadata;
 mod nak;
+mod owed;
 mod stream;
 mod timing;
 
@@ -36,6 +37,7 @@ fn main() {
         metadata::metadata(crc, 0, about);
         metadata::metadata(crc, 8, &format!(" with 8 options{about}"));
     }
+    owed::row_of(20);
     // 16 bytes and 8 for each pair: NAKs of 24 and of 1,000 bytes.
     for pairs in [1, 123] {
         let sample = Sample::new(pairs, false);

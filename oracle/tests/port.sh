@@ -121,6 +121,23 @@ sed '0,/ size [0-9]*/s// size 1/' "$work/answers" > "$work/changed"
 echo "100438 checked, 1 differ" > "$work/expected"
 expect "document02.py with a wrong Metadata PDU" "$work/expected" "$work/seen"
 
+# A log run: by hand, logs that come to 256 ranges, and by chance against the document, byte by byte, written a second time.
+"$bin/port" < "$here/owed.txt" > "$work/seen"
+expect "owed.txt" "$here/owed.expected" "$work/seen"
+"$here/owed.py" limits | "$bin/port" | "$here/owed.py" ended > "$work/seen"
+"$here/owed.py" wanted > "$work/expected"
+expect "owed.py, 256 ranges" "$work/expected" "$work/seen"
+"$here/owed.py" list 1 100000 > "$work/asked"
+"$bin/port" < "$work/asked" > "$work/answers"
+"$here/owed.py" check "$work/asked" "$work/answers" | tail -n 1 > "$work/seen" || true
+echo "100000 checked, 0 differ" > "$work/expected"
+expect "owed.py, 100000 logs" "$work/expected" "$work/seen"
+# Another offset in the first answer that is accepted.
+sed '0,/^ok at [0-9]*/s//ok at 1/' "$work/answers" > "$work/changed"
+"$here/owed.py" check "$work/asked" "$work/changed" | tail -n 1 > "$work/seen" || true
+echo "100000 checked, 1 differ" > "$work/expected"
+expect "owed.py with a wrong answer" "$work/expected" "$work/seen"
+
 # replayed NAME LIST EXPECTED: the last line of a replay
 replayed() {
     "$bin/replay" < "$2" | tail -n 1 > "$work/seen" || true

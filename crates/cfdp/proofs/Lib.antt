@@ -4,3 +4,4 @@ mod Shown
 mod Pairs
 mod Differing
 mod MetadataShown
+mod Standing

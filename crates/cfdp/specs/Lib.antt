@@ -5,3 +5,4 @@ pub mod Pairs
 pub mod Received
 pub mod Differing
 pub mod MetadataNumbers
+pub mod Standing

@@ -27,6 +27,7 @@ pub mod differ;
 pub mod eofs;
 pub mod headers;
 pub mod metadatas;
+pub mod owed;
 pub mod read;
 pub mod receive;
 pub mod reserve;

@@ -12,4 +12,12 @@ pub mod Differing
 pub mod Differences
 pub mod Demands
 pub mod Room
+pub mod Owing
+pub mod Memory
+pub mod Entering
+pub mod Running
+pub mod Fewest
+pub mod Prefixes
+pub mod Splits
+pub mod OwedDemands
 mod Cases

@@ -9,3 +9,8 @@ pub mod Differing
 pub mod Within
 pub mod Demands
 pub mod Room
+pub mod Owing
+pub mod Memory
+pub mod Log
+pub mod OwedWithin
+pub mod OwedDemands

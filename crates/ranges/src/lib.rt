@@ -2,6 +2,7 @@
 pub mod differ;
 pub mod merge;
 pub mod order;
+pub mod owed;
 pub mod side;
 pub mod tape;
 pub mod transaction;

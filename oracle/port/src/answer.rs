@@ -10,7 +10,7 @@ pub type Said = Result<String, String>;
 pub const UNTOUCHED: u64 = 0xa5a5_a5a5_a5a5_a5a5;
 
 /// How many numbers a refusal returns: document 01's table, then what document 02's requests add.
-fn values(refusal: u64) -> Option<usize> {
+pub fn values(refusal: u64) -> Option<usize> {
     match refusal {
         2..=5 | 7 | 8 | 12 | 25 | 26 => Some(1),
         1 | 6 | 9..=11 | 13 | 14 | 18 => Some(2),

@@ -9,6 +9,10 @@
 pub const ANSWER_LEN: usize = 24;
 pub type Answer = [u64; ANSWER_LEN];
 
+/// The state of a log, which the caller keeps.
+pub const OWED_LEN: usize = 516;
+pub type Owed = [u64; OWED_LEN];
+
 /// A header without its length: `shape` has seven flags and three widths, `ids` the three values,
 /// both in the order source, sequence number, destination.
 #[derive(Clone, Copy, Debug, Default, PartialEq, Eq)]
@@ -49,7 +53,7 @@ pub struct Metadata<'a> {
 }
 
 mod raw {
-    use super::Answer;
+    use super::{Answer, Owed};
 
     type Shape = *const [u8; 10];
     type Ids = *const [u64; 3];
@@ -83,6 +87,8 @@ mod raw {
         pub fn cfdp_metadata_read(bytes: *const u8, len: usize, answer: Into);
         pub fn cfdp_metadata_option(area: *const u8, len: usize, at: usize, answer: Into);
         pub fn cfdp_metadata_write(shape: Shape, ids: Ids, closure: bool, checksum_type: u8, file_size: u64, source: *const u8, source_len: usize, destination: *const u8, destination_len: usize, options: *const u8, options_len: usize, buf: *mut u8, len: usize, answer: Into);
+        pub fn cfdp_owed_entry(bytes: *const u8, len: usize, at: usize, state: *mut Owed, answer: Into);
+        pub fn cfdp_owed_run(log: *const u8, len: usize, from: usize, state: *mut Owed, answer: Into);
     }
 }
 
@@ -313,4 +319,14 @@ pub fn differ(first: &[u8], second: &[u8], ranges: &mut [u64], answer: &mut Answ
     let (one, two) = ((first.as_ptr(), first.len()), (second.as_ptr(), second.len()));
     let (at, len) = (ranges.as_mut_ptr(), ranges.len());
     unsafe { raw::cfdp_differ(one.0, one.1, two.0, two.1, at, len, answer) }
+}
+
+/// the entry's length
+pub fn owed_entry(bytes: &[u8], at: usize, state: &mut Owed, answer: &mut Answer) {
+    unsafe { raw::cfdp_owed_entry(bytes.as_ptr(), bytes.len(), at, state, answer) }
+}
+
+/// where the run stands, behind a refusal's values
+pub fn owed_run(log: &[u8], from: usize, state: &mut Owed, answer: &mut Answer) {
+    unsafe { raw::cfdp_owed_run(log.as_ptr(), log.len(), from, state, answer) }
 }

@@ -24,6 +24,8 @@ pub enum Command {
     WriteAck(Record, Ack, Vec<u8>),
     WriteMetadata(Record, Metadata, Vec<u8>),
     Receive(Vec<Vec<u8>>),
+    /// A log.
+    Owed(Vec<u8>),
     /// Two buffers, and how many numbers are lent.
     Differ(Vec<u8>, Vec<u8>, usize),
 }
@@ -84,6 +86,7 @@ impl Command {
                 | WriteAck(..)
                 | WriteMetadata(..)
                 | Receive(_)
+                | Owed(_)
                 | Differ(..)
         )
     }
@@ -116,6 +119,7 @@ fn command(words: &mut Words) -> Parsed<Command> {
         "wack" => WriteAck(words.record()?, ack(words)?, words.bytes()?),
         "wmetadata" => WriteMetadata(words.record()?, metadata(words)?, words.bytes()?),
         "receive" => Receive(words.fragments()?),
+        "owed" => Owed(words.all_bytes()?),
         "differ" => Differ(words.bytes()?, words.bytes()?, words.lent()?),
         other => return Err(format!("command {other}")),
     })

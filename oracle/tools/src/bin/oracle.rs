@@ -70,6 +70,8 @@
 //! ```text
 //! differ BYTES BYTES LENT            two NAKs compared (document 02, C-03); LENT is how many numbers
 //!                                    are lent for the ranges, each of them 7 before the call
+//! owed BYTES                         a log of NAKs heard and ranges resent, run from the fresh state
+//!                                    (document 02, C-13)
 //! ```
 //!
 //! # Answers
@@ -116,6 +118,9 @@
 //! receive                    ok CALL ; CALL ; .. filled N window CHECKSUM
 //!                               CALL is 'TAKEN more', 'TAKEN refused NO NUMBERS', or 'TAKEN nak' and
 //!                               the words of read behind 'ok'; CHECKSUM is of the window at the end
+//! owed                       ok at OFFSET ranges A B A B ..   (the log's length; start and end of each)
+//!                            refused NO NUMBERS at OFFSET ranges A B A B ..   (the refused entry's
+//!                               offset, and the state before it)
 //! differ                     ok metadata BIT BIT ranges COUNT lent N,N,..
 //!                            refused NO NUMBERS lent N,N,..   (all lent numbers after the call, '-'
 //!                               for none)

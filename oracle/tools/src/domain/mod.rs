@@ -34,7 +34,7 @@ pub fn compared(command: &Command) -> Option<bool> {
         Metadata(bytes) => metadata::reading(bytes),
         WriteMetadata(record, metadata, _) => metadata::writing(record, metadata),
         // The Rust has no such command.
-        Receive(_) | Differ(..) => false,
+        Receive(_) | Differ(..) | Owed(_) => false,
         WriteSized(..) => return None,
     })
 }
