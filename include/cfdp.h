@@ -190,7 +190,10 @@ enum {
     CFDP_ANSWER_RESERVED_STOP = 17,
     CFDP_ANSWER_RESERVED_LENGTH = 18,
     /* of cfdp_owed_run, behind a refusal's values and where nothing is refused: the offset where the run stands */
-    CFDP_ANSWER_OWED_AT = 3
+    CFDP_ANSWER_OWED_AT = 3,
+    /* of cfdp_plan */
+    CFDP_ANSWER_PLAN_REQUESTS = 1,
+    CFDP_ANSWER_PLAN_NAKS = 2
 };
 
 /* The places of a shape: seven flags, three widths. */
@@ -426,6 +429,27 @@ void cfdp_owed_entry(const uint8_t *bytes, size_t bytes_len, size_t at, uint64_t
    state stands. */
 void cfdp_owed_run(const uint8_t *log, size_t log_len, size_t from, uint64_t state[CFDP_OWED_LEN],
                    uint64_t answer[CFDP_ANSWER_LEN]);
+
+/* ---- plans of NAKs: which parts of a scope are asked for again, and in which NAKs
+
+   Received ranges and requests are numbers, start and end by turns, the end being the first byte behind. A plan's NAKs are numbers by
+   threes: start and end of its scope, and how many of the requests are its own, in their order. */
+
+/* Checks a plan, which may be anyone's, for the packet size, the whole scope and the received ranges: VALUE, 1 where each NAK
+   fits the packet, the requests rise, stay apart, lie each in its NAK's scope and ask for exactly the bytes of the scope that
+   were not received, and the scopes join up from start to end; else 0; or 13, 3, 4, 14, 21, 15, 12 for the received ranges, 12
+   for the requests, 23, 9. A plan of no NAK is right where nothing is missing. */
+void cfdp_plan_check(const uint8_t shape[CFDP_SHAPE_LEN], const uint64_t ids[CFDP_IDS_LEN], size_t packet,
+                     const uint64_t *received, size_t received_len, uint64_t start, uint64_t end, const uint64_t *requests,
+                     size_t requests_len, const uint64_t *naks, size_t naks_len, uint64_t answer[CFDP_ANSWER_LEN]);
+
+/* Makes a plan, which the check accepts and each of whose NAKs is written into a buffer of the packet size: a request for each
+   missing range, in as few NAKs as hold them. It stands in front of requests and naks, and what is behind it stays as it was:
+   how many requests, how many NAKs; or what the check refuses, then 24, 20. A refused call changes none of the lent numbers.
+   There are at most received_len / 2 + 1 missing ranges, and no more NAKs than these. */
+void cfdp_plan(const uint8_t shape[CFDP_SHAPE_LEN], const uint64_t ids[CFDP_IDS_LEN], size_t packet, const uint64_t *received,
+               size_t received_len, uint64_t start, uint64_t end, uint64_t *requests, size_t requests_len, uint64_t *naks,
+               size_t naks_len, uint64_t answer[CFDP_ANSWER_LEN]);
 
 #ifdef __cplusplus
 }

@@ -6,6 +6,7 @@ mod metadata;
 mod nak;
 mod owed;
 mod stream;
+mod plan;
 mod timing;
 
 use nak::Sample;
@@ -38,6 +39,9 @@ fn main() {
         metadata::metadata(crc, 8, &format!(" with 8 options{about}"));
     }
     owed::row_of(20);
+    for missing in [100, 1000, 8190] {
+        plan::plans(missing);
+    }
     // 16 bytes and 8 for each pair: NAKs of 24 and of 1,000 bytes.
     for pairs in [1, 123] {
         let sample = Sample::new(pairs, false);

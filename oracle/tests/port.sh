@@ -2,6 +2,9 @@
 # Checks the port's driver and the comparer that ../build.sh built: the port gives the answers of
 # own.expected, port and Rust agree on document 01's cases, on the lines of silent.txt, on streams
 # that are cut and on the replay list, and the comparer counts each wrong answer that is put in on the way.
+# own.expected, port and Rust agree on document 01's cases, on the lines of silent.txt and on the
+# replay list, the comparer counts each wrong answer that is put in on the way, and plans of NAKs are
+# checked and made as document 02 says.
 # The last line is 'N passed, M failed'; ends with 1 if anything failed.
 set -eu
 . "$(dirname "$0")/expect.sh"
@@ -137,6 +140,23 @@ sed '0,/^ok at [0-9]*/s//ok at 1/' "$work/answers" > "$work/changed"
 "$here/owed.py" check "$work/asked" "$work/changed" | tail -n 1 > "$work/seen" || true
 echo "100000 checked, 1 differ" > "$work/expected"
 expect "owed.py with a wrong answer" "$work/expected" "$work/seen"
+
+# Plans of NAKs (C-09), which the Rust lacks: cases by hand, and tasks and plans by chance against document 02, written a second time.
+"$bin/port" < "$here/plans.txt" > "$work/seen"
+expect "plans.txt" "$here/plans.expected" "$work/seen"
+grep '^[cp]' "$here/plans.txt" | sed -n '1p;$p' | "$bin/oracle" > "$work/seen"
+printf '%s\n' "bad the Rust has no such command" "bad 1048577 lent numbers" > "$work/expected"
+expect "plans asked of the Rust" "$work/expected" "$work/seen"
+"$here/plans.py" make 1 120000 > "$work/asked"
+"$bin/port" < "$work/asked" > "$work/answers"
+"$here/plans.py" judge "$work/asked" "$work/answers" > "$work/seen" || true
+echo "120237 checked, 0 differ" > "$work/expected"
+expect "plans.py" "$work/expected" "$work/seen"
+# The first plan that is not accepted, taken for one that is.
+sed '0,/ok not accepted/s//ok accepted/' "$work/answers" > "$work/changed"
+"$here/plans.py" judge "$work/asked" "$work/changed" | tail -n 1 > "$work/seen" || true
+echo "120237 checked, 1 differ" > "$work/expected"
+expect "plans.py with a wrong answer" "$work/expected" "$work/seen"
 
 # replayed NAME LIST EXPECTED: the last line of a replay
 replayed() {

@@ -6,3 +6,4 @@ pub mod Received
 pub mod Differing
 pub mod MetadataNumbers
 pub mod Standing
+pub mod Plans

@@ -28,6 +28,7 @@ pub mod eofs;
 pub mod headers;
 pub mod metadatas;
 pub mod owed;
+pub mod plans;
 pub mod read;
 pub mod receive;
 pub mod reserve;

@@ -56,6 +56,13 @@ unfolding scopeFits
 scope-passed Normal start end a b p = not-false _ (p .0)
 scope-passed Large start end a b p = rw (fits-size Large start a, fits-size Large end b)
 
+-- and so does every scope that ends no later
+pub scope-below : (file : LargeFileFlag) (start end a b : ℕ) → scopeFits file start end ≡ true → a ≤ end → b ≤ end → scopeFits file a b ≡ true
+unfolding scopeFits
+scope-below file start end a b e l m =
+    let k = scope-fits file start end e in
+    rw (fits-size file a (omega (arith, k .1)), fits-size file b (omega (arith, k .1)))
+
 pub fits-passes : (file : LargeFileFlag) (start end : ℕ) → scopeFits file start end ≡ true → Passed (scopeTooLarge file start end ∷ [])
 fits-passes Normal start end e = (rw e, tt)
 fits-passes Large start end e = (refl, tt)

@@ -51,7 +51,7 @@ fn scope_fits(file: LargeFileFlag, start: u64, end: u64) -> bool
 }
 
 // 9: in a large NAK every scope fits.
-pub(crate) fn judge_scope(file: LargeFileFlag, start: u64, end: u64) -> Judged
+pub fn judge_scope(file: LargeFileFlag, start: u64, end: u64) -> Judged
     ensures { λ r. ⌜ judgedAnswer r ≡ allOf (scopeTooLarge file start end ∷ []) ⌝ }
 {
     if let LargeFileFlag::Large = file {

@@ -83,6 +83,8 @@ mod raw {
         pub fn cfdp_eof_read(bytes: *const u8, len: usize, answer: Into);
         pub fn cfdp_eof_write(shape: Shape, ids: Ids, condition: u8, file_checksum: u32, file_size: u64, fault: bool, fault_width: u8, fault_value: u64, buf: *mut u8, len: usize, answer: Into);
         pub fn cfdp_ack_read(bytes: *const u8, len: usize, answer: Into);
+        pub fn cfdp_plan_check(shape: Shape, ids: Ids, packet: usize, received: *const u64, received_len: usize, start: u64, end: u64, requests: *const u64, requests_len: usize, naks: *const u64, naks_len: usize, answer: Into);
+        pub fn cfdp_plan(shape: Shape, ids: Ids, packet: usize, received: *const u64, received_len: usize, start: u64, end: u64, requests: *mut u64, requests_len: usize, naks: *mut u64, naks_len: usize, answer: Into);
         pub fn cfdp_ack_write(shape: Shape, ids: Ids, directive: u8, condition: u8, status: u8, buf: *mut u8, len: usize, answer: Into);
         pub fn cfdp_metadata_read(bytes: *const u8, len: usize, answer: Into);
         pub fn cfdp_metadata_option(area: *const u8, len: usize, at: usize, answer: Into);
@@ -329,4 +331,41 @@ pub fn owed_entry(bytes: &[u8], at: usize, state: &mut Owed, answer: &mut Answer
 /// where the run stands, behind a refusal's values
 pub fn owed_run(log: &[u8], from: usize, state: &mut Owed, answer: &mut Answer) {
     unsafe { raw::cfdp_owed_run(log.as_ptr(), log.len(), from, state, answer) }
+}
+
+/// What NAKs are planned for.
+#[derive(Default)]
+pub struct Task<'a> {
+    pub header: Header,
+    pub packet: usize,
+    pub received: &'a [u64],
+    pub scope: Scope,
+}
+
+/// 1 for accepted, 0 for not
+pub fn plan_check(task: &Task, requests: &[u64], naks: &[u64], answer: &mut Answer) {
+    let Header { shape, ids } = &task.header;
+    let (packet, (start, end)) = (task.packet, task.scope);
+    let (from, count) = (task.received.as_ptr(), task.received.len());
+    let (asked, requests) = (requests.as_ptr(), requests.len());
+    let (threes, naks) = (naks.as_ptr(), naks.len());
+    unsafe {
+        raw::cfdp_plan_check(
+            shape, ids, packet, from, count, start, end, asked, requests, threes, naks, answer,
+        )
+    }
+}
+
+/// requests, NAKs
+pub fn plan(task: &Task, requests: &mut [u64], naks: &mut [u64], answer: &mut Answer) {
+    let Header { shape, ids } = &task.header;
+    let (packet, (start, end)) = (task.packet, task.scope);
+    let (from, count) = (task.received.as_ptr(), task.received.len());
+    let (asked, requests) = (requests.as_mut_ptr(), requests.len());
+    let (threes, naks) = (naks.as_mut_ptr(), naks.len());
+    unsafe {
+        raw::cfdp_plan(
+            shape, ids, packet, from, count, start, end, asked, requests, threes, naks, answer,
+        )
+    }
 }

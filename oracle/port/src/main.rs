@@ -1,7 +1,7 @@
 //! The port's driver: the line protocol that the top of tools/src/bin/oracle.rs sets out, answered by
 //! the port's library.
 use port::answer::Said;
-use port::{base, differ, later, metadata, owed, receive};
+use port::{base, differ, later, metadata, owed, plans, receive};
 use std::io::Result;
 use tools::serve::serve;
 use tools::{Command, show};
@@ -37,6 +37,8 @@ fn perform(command: Command) -> String {
         Receive(fragments) => asked(receive::receive(&fragments)),
         Differ(first, second, lent) => differ::differ(&first, &second, lent),
         Owed(log) => owed::owed(&log),
+        CheckPlan(task, requests, naks) => asked(plans::check(&task, &requests, &naks)),
+        Plan(task, requests, naks) => plans::plan(&task, requests, naks),
         WriteSized(..) => show::LACKING.to_string(),
     }
 }

@@ -28,6 +28,8 @@ pub enum Command {
     Owed(Vec<u8>),
     /// Two buffers, and how many numbers are lent.
     Differ(Vec<u8>, Vec<u8>, usize),
+    CheckPlan(Task, Vec<u64>, Vec<u64>),
+    Plan(Task, usize, usize),
 }
 
 /// A NAK to be written.
@@ -66,6 +68,15 @@ pub struct Metadata {
     pub options: Vec<u8>,
 }
 
+/// What NAKs are planned for: the packet size, the whole scope, and the received ranges, start and end by turns.
+#[derive(Clone, Debug, PartialEq, Eq)]
+pub struct Task {
+    pub record: Record,
+    pub size: usize,
+    pub scope: Scope,
+    pub received: Vec<u64>,
+}
+
 impl Command {
     pub fn parse(line: &str) -> Parsed<Command> {
         let mut words = Words::of(line);
@@ -88,6 +99,8 @@ impl Command {
                 | Receive(_)
                 | Owed(_)
                 | Differ(..)
+                | CheckPlan(..)
+                | Plan(..)
         )
     }
 }
@@ -121,6 +134,8 @@ fn command(words: &mut Words) -> Parsed<Command> {
         "receive" => Receive(words.fragments()?),
         "owed" => Owed(words.all_bytes()?),
         "differ" => Differ(words.bytes()?, words.bytes()?, words.lent()?),
+        "check" => CheckPlan(task(words)?, words.numbers()?, words.numbers()?),
+        "plan" => Plan(task(words)?, words.lent()?, words.lent()?),
         other => return Err(format!("command {other}")),
     })
 }
@@ -162,5 +177,14 @@ fn metadata(words: &mut Words) -> Parsed<Metadata> {
         source_name: words.bytes()?,
         destination_name: words.bytes()?,
         options: words.bytes()?,
+    })
+}
+
+fn task(words: &mut Words) -> Parsed<Task> {
+    Ok(Task {
+        record: words.record()?,
+        size: words.number("packet size")?,
+        scope: words.scope()?,
+        received: words.numbers()?,
     })
 }

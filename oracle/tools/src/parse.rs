@@ -109,6 +109,14 @@ impl<'a> Words<'a> {
         }
     }
 
+    /// NUMBERS: '-' for none
+    pub fn numbers(&mut self) -> Parsed<Vec<u64>> {
+        match self.word("numbers")? {
+            "-" => Ok(Vec::new()),
+            word => word.split(',').map(|n| number(n, "number")).collect(),
+        }
+    }
+
     /// FAULT
     pub fn fault(&mut self) -> Parsed<Option<Field>> {
         let word = self.word("fault location")?;

@@ -18,6 +18,7 @@
 //!        and end by turns, with commas between them, perhaps none, perhaps odd in count; or 'n:'
 //!        or 'l:' and COUNT*A,B, the numbers A,B COUNT times.
 //! FAULT  '-' for none, or WIDTH:VALUE.
+//! NUMBERS  numbers with commas between them, or '-' for none.
 //! ```
 //!
 //! All other words are decimal numbers. LEN and COUNT of these forms are at most 1,048,576.
@@ -72,6 +73,11 @@
 //!                                    are lent for the ranges, each of them 7 before the call
 //! owed BYTES                         a log of NAKs heard and ranges resent, run from the fresh state
 //!                                    (document 02, C-13)
+//! check REC SIZE START END NUMBERS NUMBERS NUMBERS
+//!                                    a plan of NAKs checked (C-09): received ranges, requests, NAKs
+//! plan REC SIZE START END NUMBERS LENT LENT
+//!                                    a plan of NAKs made: received ranges; how many numbers are lent for
+//!                                    requests, and for NAKs
 //! ```
 //!
 //! # Answers
@@ -124,6 +130,9 @@
 //! differ                     ok metadata BIT BIT ranges COUNT lent N,N,..
 //!                            refused NO NUMBERS lent N,N,..   (all lent numbers after the call, '-'
 //!                               for none)
+//! check                      ok accepted, ok not accepted
+//! plan                       ok requests COUNT naks COUNT lent NUMBERS NUMBERS
+//!                            refused NO NUMBERS lent NUMBERS NUMBERS   (all lent numbers after the call)
 //! ```
 //!
 //! REC is the header as read or as handed back. 'requests none' is the missing iterator of an empty

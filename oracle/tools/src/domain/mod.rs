@@ -12,7 +12,7 @@ use crate::{Field, List, Record, Scope};
 const MAX_NORMAL_PAIRS: usize = 8190;
 const MAX_LARGE_PAIRS: usize = 4094;
 
-/// Whether the answers to a command are compared; `None` for a command that the port lacks.
+/// Whether the answers to a command are compared; `None` for a command that one of them lacks.
 pub fn compared(command: &Command) -> Option<bool> {
     use Command::*;
     Some(match command {
@@ -34,7 +34,7 @@ pub fn compared(command: &Command) -> Option<bool> {
         Metadata(bytes) => metadata::reading(bytes),
         WriteMetadata(record, metadata, _) => metadata::writing(record, metadata),
         // The Rust has no such command.
-        Receive(_) | Differ(..) | Owed(_) => false,
+        Receive(_) | Differ(..) | Owed(_) | CheckPlan(..) | Plan(..) => false,
         WriteSized(..) => return None,
     })
 }
