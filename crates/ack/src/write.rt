@@ -13,7 +13,9 @@ use crate::Ack;
 use crate::acked;
 use header::CRC_LEN;
 use header::Judged;
+use header::LengthResult;
 use header::pdu::DataLength;
+use header::pdu::PduWritten;
 use header::pdu::WriteResult;
 
 // What the ACK's own tests say, which stand behind the record's: d.
@@ -52,13 +54,15 @@ impl Ack {
         ensures stored { λ _. ⌜ now (buf .exit) ≡ ackMemory self (now (buf .entry)) ⌝ }
     {
         let header = self.header.with_direction(acked::direction_for(self.acked));
-        let begun = header.begin_write(data_length(self), buf);
+        let own = data_length(self);
+        let header = header.with_data(own);
+        let begun = header.begin_write(own, buf);
         match begun {
-            WriteResult::Refused(refusal) => WriteResult::Refused(refusal),
-            WriteResult::Written(written) => {
-                put_data(self, written.header.header_len(), buf);
-                written.header.seal(buf);
-                WriteResult::Written(written)
+            LengthResult::Refused(refusal) => WriteResult::Refused(refusal),
+            LengthResult::Length(length) => {
+                put_data(self, header.header_len(), buf);
+                header.seal(buf);
+                WriteResult::Written(PduWritten { header, length })
             }
         }
     }

@@ -15,8 +15,10 @@ use fields::be;
 use header::CRC_LEN;
 use header::Direction;
 use header::Judged;
+use header::LengthResult;
 use header::condition::judge_condition;
 use header::pdu::DataLength;
+use header::pdu::PduWritten;
 use header::pdu::WriteResult;
 use header::size;
 
@@ -83,13 +85,15 @@ impl Eof {
         ensures stored { λ _. ⌜ now (buf .exit) ≡ eofMemory self (now (buf .entry)) ⌝ }
     {
         let header = self.header.with_direction(Direction::TowardsReceiver);
-        let begun = header.begin_write(data_length(self), buf);
+        let own = data_length(self);
+        let header = header.with_data(own);
+        let begun = header.begin_write(own, buf);
         match begun {
-            WriteResult::Refused(refusal) => WriteResult::Refused(refusal),
-            WriteResult::Written(written) => {
-                put_data(self, written.header.header_len(), buf);
-                written.header.seal(buf);
-                WriteResult::Written(written)
+            LengthResult::Refused(refusal) => WriteResult::Refused(refusal),
+            LengthResult::Length(length) => {
+                put_data(self, header.header_len(), buf);
+                header.seal(buf);
+                WriteResult::Written(PduWritten { header, length })
             }
         }
     }

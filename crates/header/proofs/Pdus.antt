@@ -8,9 +8,9 @@ use native.Mathlib.Omega.{arith}
 use lib.ListN.{length, take, drop, length-append}
 use lib.Seq.{sets, sets-eq, length-sets, take-at}
 use borrow.Author.Tests.{ltb-false, le-ltb}
-use Rattle.fields.specs.Answer.{Answer, accepted, told, andThen, Test, firstOf, leaves, allOf}
+use Rattle.fields.specs.Answer.{Answer, accepted, short, refused, told, andThen, Test, firstOf, leaves, allOf}
 use Rattle.fields.proofs.BigEndian.{then-sets}
-use Rattle.fields.proofs.Judging.{Passed, passed, passed-first, passed-last, passed-on, passed-after, all-passed, refused-on, told-on, told-leaves, went, then-tests}
+use Rattle.fields.proofs.Judging.{Passed, passed, passed-first, passed-last, passed-on, passed-after, all-passed, refused-on, refused-same, refused-then, accepted-then, told-either, told-on, told-leaves, accepted-leaves, sets-leaves, went, then-tests}
 use Rattle.header.specs.declared.PduHeader.{PduHeader}
 use Rattle.header.specs.declared.pdu.PduWritten.{PduWritten}
 use Rattle.header.specs.declared.flags.PduType.the-variants.{FileDirective}
@@ -22,7 +22,7 @@ use Rattle.header.specs.Judging.{recordTests, judging, Sound}
 use Rattle.header.specs.Writing.{noRoom}
 use Rattle.header.specs.Verifying.{checksumBytes, crcAdded}
 use Rattle.header.specs.Directive.{notADirective}
-use Rattle.header.specs.Pdu.{directiveTests, judgingDirective, pduOver, handedBack, writingPdu, pduMemory, beginning, begunMemory, sealedMemory}
+use Rattle.header.specs.Pdu.{directiveTests, judgingDirective, pduOver, handedBack, writingPdu, pduMemory, withData, beginning, begunMemory, sealedMemory}
 use Rattle.header.proofs.FlagBits.{pduType-back}
 use Rattle.header.proofs.Judging.{sound, with-tests, refused-first}
 use Rattle.header.proofs.Writing.{header-length}
@@ -64,93 +64,74 @@ with-directive d f l h = ap (λ (ts : List Test). ts ++ (notADirective h ∷ [])
 
 -- ---- the exits of the judgement
 
-pub no-room-for : (h : PduHeader) (room p : ℕ) (ns : List ℕ) → p ≡ pduLength h → told ns ≡ allOf (noRoom room p ∷ []) → told ns ≡ firstOf (noRoom room (pduLength h) ∷ []) (handedBack h)
-no-room-for h room p ns q e = refused-on ns (noRoom room p ∷ []) [] tt (handedBack h) e ∙ ap (λ (n : ℕ). firstOf (noRoom room n ∷ []) (handedBack h)) q
-
-pub room-for : (h : PduHeader) (room p : ℕ) → p ≡ pduLength h → accepted tt ≡ allOf (noRoom room p ∷ []) → accepted (record { header = h; length = p }) ≡ firstOf (noRoom room (pduLength h) ∷ []) (handedBack h)
-room-for h room p q e = ap (λ (n : ℕ). accepted (record { header = h; length = n })) q ∙ sym (all-passed (noRoom room (pduLength h) ∷ []) (handedBack h) (rw q at (passed (noRoom room p ∷ []) tt tt e .0)))
-
--- what goes on behind the record, and behind the own tests
-abbrev into : PduHeader → ℕ → ℕ → Answer PduWritten
-into h room d = firstOf (noRoom room (pduLength (withLength d h)) ∷ []) (handedBack (withLength d h))
+-- what goes on behind the record and the own tests
+abbrev into : PduHeader → ℕ → Answer ℕ
+into h room = firstOf (noRoom room (pduLength h) ∷ []) (pduLength h)
 
 module _ (h : PduHeader) (room : ℕ) where
   pub record-refused : (own : Answer ℕ) (ns : List ℕ) → told ns ≡ judgingDirective h → told ns ≡ beginning h own room
   unfolding beginning
-  record-refused own ns e =
-      sym (told-on ns (λ _. andThen own (into h room))) ∙ ap (λ (o : Answer (Unit {0})). andThen o (λ _. andThen own (into h room))) e
+  record-refused own ns e = refused-then (judgingDirective h) (λ _. andThen own (λ _. into h room)) ns e
 
   module _ (e : accepted tt ≡ judgingDirective h) where
-    behind-record : (own : Answer ℕ) → andThen own (into h room) ≡ beginning h own room
+    behind-record : (own : Answer ℕ) → andThen own (λ _. into h room) ≡ beginning h own room
     unfolding beginning
-    behind-record own = ap (λ (o : Answer (Unit {0})). andThen o (λ _. andThen own (into h room))) e
+    behind-record own = accepted-then (judgingDirective h) (λ _. andThen own (λ _. into h room)) tt e
 
     pub own-refused : (ms : List ℕ) → told ms ≡ beginning h (told ms) room
-    own-refused ms = sym (told-on ms (into h room)) ∙ behind-record (told ms)
+    own-refused ms = sym (told-on ms (λ _. into h room)) ∙ behind-record (told ms)
 
-    pub room-decides : (d : ℕ) (k : PduHeader) (o : Answer PduWritten) → k ≡ withLength d h → o ≡ firstOf (noRoom room (pduLength k) ∷ []) (handedBack k) → o ≡ beginning h (accepted d) room
-    room-decides d k o p q = q ∙ ap (λ (x : PduHeader). firstOf (noRoom room (pduLength x) ∷ []) (handedBack x)) p ∙ behind-record (accepted d)
+    module _ (d p : ℕ) (q : p ≡ pduLength h) where
+      pub no-room-for : (ns : List ℕ) → told ns ≡ allOf (noRoom room p ∷ []) → told ns ≡ beginning h (accepted d) room
+      no-room-for ns f = refused-same ns (noRoom room p ∷ []) tt (pduLength h) f ∙ ap (λ (n : ℕ). firstOf (noRoom room n ∷ []) (pduLength h)) q ∙ behind-record (accepted d)
+
+      pub room-for : accepted tt ≡ allOf (noRoom room p ∷ []) → accepted p ≡ beginning h (accepted d) room
+      room-for f = ap accepted q ∙ sym (all-passed (noRoom room (pduLength h) ∷ []) (pduLength h) (rw q at (passed (noRoom room p ∷ []) tt tt f .0))) ∙ behind-record (accepted d)
+
+-- the header keeps its length where the own tests refused
+pub refused-data : (ns : List ℕ) (h : PduHeader) → h ≡ withData (told ns) h
+unfolding withData
+refused-data ns h = sym (told-either (λ (o : Answer ℕ). withData o h) h ns (λ l n. refl) (λ ms. refl))
 
 -- ---- what an accepted beginning has
 
-pub record Begun (h : PduHeader) (own : Answer ℕ) (room : ℕ) (w : PduWritten) : Type 0 where
+pub record Begun (h : PduHeader) (own : Answer ℕ) (room p : ℕ) : Type 0 where
   pub d : ℕ
   pub own-is : accepted d ≡ own
-  pub header-is : w .header ≡ withLength d h
-  pub good : Passed (directiveTests (w .header))
-  pub room-is : pduLength (w .header) ≤ room
+  pub length-is : p ≡ pduLength h
+  pub good : Passed (directiveTests h)
+  pub room-is : pduLength h ≤ room
 
--- the length is not judged
-with-any : (d : ℕ) (h : PduHeader) → directiveTests (withLength d h) ≡ directiveTests h
-unfolding directiveTests recordTests
-with-any d h = refl
-
-pub begun : (h : PduHeader) (own : Answer ℕ) (room : ℕ) (w : PduWritten) → accepted w ≡ beginning h own room → Begun h own room w
+pub begun : (h : PduHeader) (own : Answer ℕ) (room p : ℕ) → accepted p ≡ beginning h own room → Begun h own room p
 unfolding beginning
-begun h own room w e =
-    let m = went (judgingDirective h) (λ _. andThen own (into h room)) w e in
-    let n = went own (into h room) w (m .second) in
-    let k = withLength (n .mid) h in
-    let p = passed (noRoom room (pduLength k) ∷ []) w (handedBack k) (n .second) in
-    let is : w .header ≡ k = ap (λ (x : PduWritten). x .header) (p .1) in
-    record {
-      d = n .mid;
-      own-is = n .first;
-      header-is = is;
-      good = rw (is, with-any (n .mid) h) (passed-directive h (m .first));
-      room-is = rw is (ltb-false _ _ (p .0 .0));
-    }
+begun h own room p e =
+    let m = went (judgingDirective h) (λ _. andThen own (λ _. into h room)) p e in
+    let n = went own (λ _. into h room) p (m .second) in
+    let q = passed (noRoom room (pduLength h) ∷ []) p (pduLength h) (n .second) in
+    record { d = n .mid; own-is = n .first; length-is = q .1; good = passed-directive h (m .first); room-is = ltb-false _ _ (q .0 .0) }
 
--- so its header can be stored
-pub storable : (h : PduHeader) (own : Answer ℕ) (room : ℕ) (w : PduWritten) → accepted w ≡ beginning h own room → Sound (w .header) × (headerLength (w .header) ≤ room)
-storable h own room w e =
-    let b = begun h own room w e in
-    (sound (w .header) (directive-good (w .header) (b .good)), omega (arith, pdu-sum (w .header), b .room-is))
+-- so the header can be stored
+pub storable : (h : PduHeader) (own : Answer ℕ) (room p : ℕ) → accepted p ≡ beginning h own room → Sound h × (headerLength h ≤ room)
+storable h own room p e =
+    let b = begun h own room p e in
+    (sound h (directive-good h (b .good)), omega (arith, pdu-sum h, b .room-is))
 
-pub nothing-begun : (h : PduHeader) (own : Answer ℕ) (s ns : List ℕ) → told ns ≡ beginning h own (length s) → (told ns ≡ beginning h own (length s)) × (s ≡ begunMemory h own s)
-unfolding begunMemory
-nothing-begun h own s ns e = (e, told-leaves ns (beginning h own (length s)) (λ w. headerBytes (w .header)) s e)
+module _ (h : PduHeader) (own : Answer ℕ) (s : List ℕ) where
+  pub nothing-begun : (ns : List ℕ) → told ns ≡ beginning h own (length s) → (told ns ≡ beginning h own (length s)) × (s ≡ begunMemory h own s)
+  unfolding begunMemory
+  nothing-begun ns e = (e, told-leaves ns (beginning h own (length s)) (λ _. headerBytes h) s e)
 
-pub header-begun : (h : PduHeader) (own : Answer ℕ) (s b : List ℕ) (w : PduWritten) → accepted w ≡ beginning h own (length s) → b ≡ headerBytes (w .header) ++ drop (headerLength (w .header)) s
-    → (accepted w ≡ beginning h own (length s)) × (b ≡ begunMemory h own s)
-unfolding begunMemory
-header-begun h own s b w e q =
-    (e, q ∙ ap (λ (k : ℕ). headerBytes (w .header) ++ drop k s) (sym (header-length (w .header))) ∙ ap (λ (x : Answer PduWritten). leaves x (λ y. headerBytes (y .header)) s) e)
+  pub header-begun : (b : List ℕ) (p : ℕ) → accepted p ≡ beginning h own (length s) → b ≡ headerBytes h ++ drop (headerLength h) s
+      → (accepted p ≡ beginning h own (length s)) × (b ≡ begunMemory h own s)
+  unfolding begunMemory
+  header-begun b p e q =
+      (e, q ∙ ap (λ (n : ℕ). headerBytes h ++ drop n s) (sym (header-length h)) ∙ accepted-leaves (beginning h own (length s)) (λ _. headerBytes h) s p e)
 
 pub sealed-is : (h : PduHeader) (n : ℕ) (s b : List ℕ) → n ≡ dataEnd h → b ≡ crcAdded (h .crc) n s → b ≡ sealedMemory h s
 unfolding sealedMemory
 sealed-is h n s b p e = e ∙ ap (λ (k : ℕ). crcAdded (h .crc) k s) p
 
 -- ---- for the writers above
-
--- the beginning with the outcome of the own tests is the whole judgement, in document 01's order
-pub begins : (h : PduHeader) (ts : List Test) (d room : ℕ) → beginning h (firstOf ts d) room ≡ writingPdu (withLength d h) ts room
-unfolding beginning writingPdu judgingDirective
-begins h ts d room =
-    let k = withLength d h in
-    let last = noRoom room (pduLength k) ∷ [] in
-    then-tests (directiveTests h) (ts ++ last) tt (handedBack k) (λ _. andThen (firstOf ts d) (into h room)) (then-tests ts last d (handedBack k) (into h room) refl)
-    ∙ ap (λ (us : List Test). firstOf (us ++ (ts ++ last)) (handedBack k)) (sym (with-any d h))
 
 -- header and data stand in front, the checksum goes behind them: that is the PDU, and the rest is as it was
 pub sealed : (k : PduHeader) (content s b₁ b₂ : List ℕ) → length content + 2 * crcBit (k .crc) ≡ k .length → pduLength k ≤ length s
@@ -168,57 +149,6 @@ sealed k content s b₁ b₂ size room e₁ e₂ =
     let p : b₂ ≡ sets s 0 (X ++ C) = then-sets X C s n lX e₁ (e₂ ∙ added-sets (k .crc) n b₁ (omega arith) ∙ ap (λ (x : List ℕ). sets b₁ n (checksumBytes (k .crc) x)) t₁) in
     let lXC : length (X ++ C) ≤ length s = omega (arith, length-append X C) in
     p ∙ sets-eq (X ++ C) s 0 (omega arith) ∙ ap (λ (j : ℕ). (X ++ C) ++ drop j s) (zero-add (length (X ++ C)))
-
-module _ (h : PduHeader) (ts : List Test) (d : ℕ) (o : Answer ℕ) (own : o ≡ firstOf ts d) (s : List ℕ) where
-  abbrev K : PduHeader
-  K = withLength d h
-
-  whole : beginning h o (length s) ≡ writingPdu K ts (length s)
-  whole = ap (λ (x : Answer ℕ). beginning h x (length s)) own ∙ begins h ts d (length s)
-
-  -- a refused write changes no byte
-  not-begun : (content ns b : List ℕ) → told ns ≡ beginning h o (length s) → b ≡ begunMemory h o s → (told ns ≡ writingPdu K ts (length s)) × (b ≡ pduMemory K ts content s)
-  unfolding pduMemory
-  not-begun content ns b e q = (e ∙ whole, q ∙ sym (nothing-begun h o s ns e .1) ∙ told-leaves ns (writingPdu K ts (length s)) (λ w. pduOver (w .header) content) s (e ∙ whole))
-
-  -- what an accepted beginning has
-  module _ (w : PduWritten) (e : accepted w ≡ beginning h o (length s)) where
-    stands : Begun h o (length s) w
-    stands = begun h o (length s) w e
-
-    own-went : Passed ts × (stands .d ≡ d)
-    own-went = passed ts (stands .d) d (stands .own-is ∙ own)
-
-    own-passed : Passed ts
-    own-passed = own-went .0
-
-    header-is : w .header ≡ K
-    header-is = stands .header-is ∙ ap (λ (x : ℕ). withLength x h) (own-went .1)
-
-    written : accepted w ≡ writingPdu K ts (length s)
-    written = e ∙ whole
-
-    module _ (b : List ℕ) (q : b ≡ begunMemory h o s) where
-      stored : b ≡ sets s 0 (headerBytes (w .header))
-      unfolding begunMemory
-      stored =
-          let l : 0 + length (headerBytes (w .header)) ≤ length s = omega (arith, header-length (w .header), stands .room-is, pdu-sum (w .header)) in
-          q ∙ ap (λ (x : Answer PduWritten). leaves x (λ y. headerBytes (y .header)) s) (sym e) ∙ sym (sets-eq (headerBytes (w .header)) s 0 l ∙ rw zero-add)
-
-      -- the buffer has the room that the PDU needs
-      begun-room : pduLength (w .header) ≤ length b
-      begun-room = omega (arith, ap length stored ∙ length-sets s 0 (headerBytes (w .header)), stands .room-is)
-
-      -- header, data and checksum, one behind the other
-      pdu-stored : (content b₁ b₂ : List ℕ) → length content + crcLength (w .header .crc) ≡ w .header .length
-          → b₁ ≡ sets b (headerLength (w .header)) content → b₂ ≡ sealedMemory (w .header) b₁
-          → (accepted w ≡ writingPdu K ts (length s)) × (b₂ ≡ pduMemory K ts content s)
-      unfolding pduMemory
-      pdu-stored content b₁ b₂ size e₁ e₂ = (
-        written,
-        sealed (w .header) content s b₁ b₂ size (stands .room-is) (then-sets (headerBytes (w .header)) content s (headerLength (w .header)) (header-length (w .header)) stored e₁) e₂
-            ∙ ap (λ (x : Answer PduWritten). leaves x (λ y. pduOver (y .header) content) s) written,
-      )
 
 -- what an accepted write has
 pub record Written (h : PduHeader) (ts : List Test) (room : ℕ) (w : PduWritten) : Type 0 where
@@ -248,36 +178,87 @@ pub memory-has : (h : PduHeader) (ts : List Test) (content s : List ℕ) (w : Pd
 unfolding pduMemory
 memory-has h ts content s w e = ap (λ (x : Answer PduWritten). leaves x (λ y. pduOver (y .header) content) s) e
 
--- ---- the needs of a writer: k is the header that it begins with, h what that is, d the length that its own tests gave
+-- ---- the needs of a writer: j is its header as code has it and h what that is, o what its own tests said, k the header that it begins with
 
-module _ (k h : PduHeader) (pk : k ≡ h) (ts : List Test) (d : ℕ) (o : Answer ℕ) (own : o ≡ firstOf ts d) (s : List ℕ) where
-  as-begun : beginning k o (length s) ≡ beginning h o (length s)
-  as-begun = ap (λ (x : PduHeader). beginning x o (length s)) pk
+-- the length is not judged
+with-any : (d : ℕ) (h : PduHeader) → directiveTests (withLength d h) ≡ directiveTests h
+unfolding directiveTests recordTests
+with-any d h = refl
 
-  as-stored : begunMemory k o s ≡ begunMemory h o s
-  as-stored = ap (λ (x : PduHeader). begunMemory x o s) pk
+-- where the own tests refused no length is looked at
+begun-with : (o : Answer ℕ) (ts : List Test) (d : ℕ) → o ≡ firstOf ts d → (h : PduHeader) (room : ℕ) → beginning (withData o h) o room ≡ beginning (withLength d h) o room
+unfolding withData beginning judgingDirective
+begun-with (accepted x) ts d own h room = ap (λ (y : ℕ). beginning (withLength y h) (accepted x) room) (passed ts x d own .1)
+begun-with (short l n) ts d own h room = ap (λ (us : List Test). andThen (allOf us) (λ _. short l n)) (sym (with-any d h))
+begun-with (refused ns) ts d own h room = ap (λ (us : List Test). andThen (allOf us) (λ _. refused ns)) (sym (with-any d h))
 
-  pub write-refused : (content b ns : List ℕ) → told ns ≡ beginning k o (length s) → b ≡ begunMemory k o s
-      → (told ns ≡ writingPdu (withLength d h) ts (length s)) × (b ≡ pduMemory (withLength d h) ts content s)
-  write-refused content b ns p q = not-begun h ts d o own s content ns b (p ∙ as-begun) (q ∙ as-stored)
+-- the beginning has the tests of the whole write, in document 01's order
+begins : (h : PduHeader) (ts : List Test) (d room : ℕ) → beginning h (firstOf ts d) room ≡ firstOf (directiveTests h ++ (ts ++ (noRoom room (pduLength h) ∷ []))) (pduLength h)
+unfolding beginning judgingDirective
+begins h ts d room =
+    let last = noRoom room (pduLength h) ∷ [] in
+    then-tests (directiveTests h) (ts ++ last) tt (pduLength h) (λ _. andThen (firstOf ts d) (λ _. into h room)) (then-tests ts last d (pduLength h) (λ _. into h room) refl)
 
-  module _ (w : PduWritten) (b : List ℕ) (p : accepted w ≡ beginning k o (length s)) (q : b ≡ begunMemory k o s) where
+module _ (j h : PduHeader) (pj : j ≡ h) (ts : List Test) (d : ℕ) (o : Answer ℕ) (own : o ≡ firstOf ts d) (k : PduHeader) (pk : k ≡ withData o j) where
+  abbrev K : PduHeader
+  K = withLength d h
+
+  pub judged-refused : (room : ℕ) (ns : List ℕ) → told ns ≡ beginning k o room → told ns ≡ writingPdu K ts room
+  unfolding writingPdu
+  judged-refused room ns e =
+      let from : beginning k o room ≡ beginning K (firstOf ts d) room =
+      ap (λ (x : PduHeader). beginning x o room) (pk ∙ ap (withData o) pj) ∙ begun-with o ts d own h room ∙ ap (λ (x : Answer ℕ). beginning K x room) own in
+      refused-same ns (directiveTests K ++ (ts ++ (noRoom room (pduLength K) ∷ []))) (pduLength K) (handedBack K) (e ∙ from ∙ begins K ts d room)
+
+  module _ (room p : ℕ) (e : accepted p ≡ beginning k o room) where
+    stands : Begun k o room p
+    stands = begun k o room p e
+
+    own-went : Passed ts × (stands .d ≡ d)
+    own-went = passed ts (stands .d) d (stands .own-is ∙ own)
+
     pub begun-passed : Passed ts
-    begun-passed = own-passed h ts d o own s w (p ∙ as-begun)
+    begun-passed = own-went .0
 
-    pub begun-header : w .header ≡ withLength d h
-    begun-header = header-is h ts d o own s w (p ∙ as-begun)
+    pub begun-header : k ≡ K
+    unfolding withData
+    begun-header = pk ∙ ap₂ withData (sym (stands .own-is) ∙ ap accepted (own-went .1)) pj
 
-    pub begun-sets : b ≡ sets s 0 (headerBytes (w .header))
-    begun-sets = stored h ts d o own s w (p ∙ as-begun) b (q ∙ as-stored)
+    pub begun-room : pduLength k ≤ room
+    begun-room = stands .room-is
 
-    module _ (content : List ℕ) (size : length content + crcLength (h .crc) ≡ d) (a : ℕ) (pa : a ≡ headerLength (w .header)) where
-      filled-size : length content + crcLength (w .header .crc) ≡ w .header .length
-      filled-size = rw begun-header size
+    pub judged-passed : accepted (record { header = k; length = p }) ≡ writingPdu K ts room
+    judged-passed =
+        ap (λ (n : ℕ). accepted (record { header = k; length = n })) (stands .length-is) ∙ passes k ts room (stands .good) begun-passed begun-room ∙ ap (λ (x : PduHeader). writingPdu x ts room) begun-header
 
-      pub data-goes : a + length content ≤ length b
-      data-goes = omega (arith, begun-room h ts d o own s w (p ∙ as-begun) b (q ∙ as-stored), pdu-sum (w .header), filled-size)
+  module _ (s : List ℕ) where
+    -- a refused write changes no byte
+    pub write-refused : (content b ns : List ℕ) → told ns ≡ beginning k o (length s) → b ≡ begunMemory k o s → (told ns ≡ writingPdu K ts (length s)) × (b ≡ pduMemory K ts content s)
+    unfolding pduMemory
+    write-refused content b ns e q =
+        let r = judged-refused (length s) ns e in
+        (r, q ∙ sym (nothing-begun k o s ns e .1) ∙ told-leaves ns (writingPdu K ts (length s)) (λ w. pduOver (w .header) content) s r)
 
-      pub write-done : (b₁ b₂ : List ℕ) → b₁ ≡ sets b a content → b₂ ≡ sealedMemory (w .header) b₁
-          → (accepted w ≡ writingPdu (withLength d h) ts (length s)) × (b₂ ≡ pduMemory (withLength d h) ts content s)
-      write-done b₁ b₂ e₁ e₂ = pdu-stored h ts d o own s w (p ∙ as-begun) b (q ∙ as-stored) content b₁ b₂ filled-size (e₁ ∙ ap (λ (j : ℕ). sets b j content) pa) e₂
+    module _ (p : ℕ) (b : List ℕ) (e : accepted p ≡ beginning k o (length s)) (q : b ≡ begunMemory k o s) where
+      pub begun-sets : b ≡ sets s 0 (headerBytes k)
+      unfolding begunMemory
+      begun-sets =
+          let l : length (headerBytes k) ≤ length s = omega (arith, header-length k, begun-room (length s) p e, pdu-sum k) in
+          q ∙ sym (sets-leaves (beginning k o (length s)) (λ _. headerBytes k) s p e l)
+
+      module _ (content : List ℕ) (size : length content + crcLength (h .crc) ≡ d) (a : ℕ) (pa : a ≡ headerLength k) where
+        filled-size : length content + crcLength (k .crc) ≡ k .length
+        filled-size = rw (begun-header (length s) p e) size
+
+        pub data-goes : a + length content ≤ length b
+        data-goes = omega (arith, ap length begun-sets ∙ length-sets s 0 (headerBytes k), begun-room (length s) p e, pdu-sum k, filled-size)
+
+        -- header, data and checksum, one behind the other
+        pub write-done : (b₁ b₂ : List ℕ) → b₁ ≡ sets b a content → b₂ ≡ sealedMemory k b₁
+            → (accepted (record { header = k; length = p }) ≡ writingPdu K ts (length s)) × (b₂ ≡ pduMemory K ts content s)
+        unfolding pduMemory
+        write-done b₁ b₂ e₁ e₂ = (
+          judged-passed (length s) p e,
+          sealed k content s b₁ b₂ filled-size (begun-room (length s) p e) (then-sets (headerBytes k) content s a (header-length k ∙ sym pa) begun-sets e₁) e₂
+              ∙ ap (λ (x : Answer PduWritten). leaves x (λ y. pduOver (y .header) content) s) (judged-passed (length s) p e),
+        )

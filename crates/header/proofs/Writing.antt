@@ -21,6 +21,10 @@ pub header-length : (h : PduHeader) → length (headerBytes h) ≡ headerLength 
 unfolding headerBytes headerLength
 header-length h = simp (length-append, be-length) (omega arith)
 
+-- a number stored with the width that was found is stored with the one that was asked for
+pub put-by-width : (s b : List ℕ) (at w n v : ℕ) → w ≡ n → b ≡ bePut s at n v → b ≡ bePut s at w v
+put-by-width s b at w n v p e = e ∙ ap (λ (k : ℕ). bePut s at k v) (sym p)
+
 -- the six fields, one behind the other
 pub fields-put : (h : PduHeader) (s b₁ b₂ b₃ b₄ b₅ b₆ : List ℕ) (f g : ℕ) → Sound h → headerLength h ≤ length s → h .length < 2 ^ 16
     → f < 256 → g < 256 → f ≡ firstByte h → g ≡ fourthByte h

@@ -2,7 +2,7 @@
 use Prim.Native.Nat.{ℕ}
 use mathlib.Core.List.{List, [], _∷_, _++_}
 use lib.ListN.{length}
-use Rattle.fields.specs.Answer.{Answer, accepted, told, andThen, Test, firstOf, leaves, allOf}
+use Rattle.fields.specs.Answer.{Answer, accepted, short, refused, told, andThen, Test, firstOf, leaves, allOf}
 use Rattle.fields.specs.Refusal.{paper}
 use Rattle.header.specs.declared.PduHeader.{PduHeader}
 use Rattle.header.specs.declared.pdu.DataLength.{DataLength}
@@ -54,16 +54,22 @@ pduMemory h own content s = leaves (writingPdu h own (length s)) (λ w. pduOver 
 
 -- ---- its beginning, for any outcome of the PDU's own tests: a refusal, or d
 
--- '3; 4; 14', 21; that outcome; 11 for the header with d filled in
-unfoldable pub beginning : PduHeader → Answer ℕ → ℕ → Answer PduWritten
+-- the header with d filled in, where there is one
+unfoldable pub withData : Answer ℕ → PduHeader → PduHeader
+withData (accepted d) h = withLength d h
+withData (short l n) h = h
+withData (refused ns) h = h
+
+-- '3; 4; 14', 21; that outcome; 11; else P of the header, its length filled in
+unfoldable pub beginning : PduHeader → Answer ℕ → ℕ → Answer ℕ
 beginning h own room =
     andThen (judgingDirective h) (λ _.
-    andThen own (λ d.
-    firstOf (noRoom room (pduLength (withLength d h)) ∷ []) (handedBack (withLength d h))))
+    andThen own (λ _.
+    firstOf (noRoom room (pduLength h) ∷ []) (pduLength h)))
 
 -- the buffer then: the header's bytes in front, the rest as it was; a refusal changes nothing
 unfoldable pub begunMemory : PduHeader → Answer ℕ → List ℕ → List ℕ
-begunMemory h own s = leaves (beginning h own (length s)) (λ w. headerBytes (w .header)) s
+begunMemory h own s = leaves (beginning h own (length s)) (λ _. headerBytes h) s
 
 -- its end: the checksum behind the data, with the flag
 unfoldable pub sealedMemory : PduHeader → List ℕ → List ℕ

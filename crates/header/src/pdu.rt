@@ -1,14 +1,11 @@
 // Writing a directive PDU around its data: the judgement in document 01's order, the beginning of the write, and its end.
 ghost use mathlib.Core.Path.{_≡_};
-ghost use mathlib.Core.List.{[], _∷_};
 ghost use lib.ListN.{length};
-ghost use Rattle.fields.specs.Answer.{firstOf};
-ghost use Rattle.header.specs.Answers.{judgedAnswer};
-ghost use Rattle.header.specs.Header.{pduLength};
-ghost use Rattle.header.specs.Writing.{noRoom};
-ghost use Rattle.header.specs.Pdu.{judgingDirective, dataAnswer, writeAnswer, handedBack, beginning, begunMemory, sealedMemory};
+ghost use Rattle.header.specs.Answers.{lengthAnswer, judgedAnswer};
+ghost use Rattle.header.specs.Pdu.{judgingDirective, dataAnswer, withData, beginning, begunMemory, sealedMemory};
 use crate::HeaderResult;
 use crate::Judged;
+use crate::LengthResult;
 use crate::PduHeader;
 use crate::verify;
 use crate::write::judge_room;
@@ -33,18 +30,6 @@ pub enum WriteResult {
     Refused(Refusal),
 }
 
-// Room for the whole PDU.
-fn into_room(header: PduHeader, room: usize) -> WriteResult
-    ensures { λ r. ⌜ writeAnswer r ≡ firstOf (noRoom room (pduLength header) ∷ []) (handedBack header) ⌝ }
-{
-    let length = header.pdu_len();
-    let judged = judge_room(room, length);
-    match judged {
-        Judged::Refused(refusal) => WriteResult::Refused(refusal),
-        Judged::Passed => WriteResult::Written(PduWritten { header, length }),
-    }
-}
-
 impl PduHeader {
     // Whether a directive PDU can have the record: 3, 4, 14, then 21.
     pub fn judged_directive(self) -> Judged
@@ -57,32 +42,47 @@ impl PduHeader {
         }
     }
 
-    // Whether a directive PDU with the record and such data can be written into so many bytes: the record's tests, then what the PDU's
-    // own tests said, then the room.
-    pub fn judge_write(self, own: DataLength, room: usize) -> WriteResult
-        ensures { λ r. ⌜ writeAnswer r ≡ beginning self (dataAnswer own) room ⌝ }
+    // The header with d filled in, where the PDU's own tests gave one.
+    pub fn with_data(self, own: DataLength) -> PduHeader
+        ensures { λ r. ⌜ r ≡ withData (dataAnswer own) self ⌝ }
+    {
+        match own {
+            DataLength::Refused(_) => self,
+            DataLength::Length(d) => self.with_datafield_len(d),
+        }
+    }
+
+    // P, or why the directive PDU of a header with such data cannot be written into so many bytes: the record's tests, then what the PDU's
+    // own tests said, then the room. It hands back a number and no record, since a record goes through memory and its reader waits for it.
+    pub fn judge_write(self, own: DataLength, room: usize) -> LengthResult
+        ensures { λ r. ⌜ lengthAnswer r ≡ beginning self (dataAnswer own) room ⌝ }
     {
         let judged = self.judged_directive();
-        match judged {
-            Judged::Refused(refusal) => WriteResult::Refused(refusal),
-            Judged::Passed => match own {
-                DataLength::Refused(refusal) => WriteResult::Refused(refusal),
-                DataLength::Length(d) => into_room(self.with_datafield_len(d), room),
-            },
+        if let Judged::Refused(refusal) = judged {
+            return LengthResult::Refused(refusal);
+        }
+        if let DataLength::Refused(refusal) = own {
+            return LengthResult::Refused(refusal);
+        }
+        let length = self.pdu_len();
+        let room_for = judge_room(room, length);
+        match room_for {
+            Judged::Refused(refusal) => LengthResult::Refused(refusal),
+            Judged::Passed => LengthResult::Length(length),
         }
     }
 
     // That, and the header's store. A refused write changes no byte.
-    pub fn begin_write(self, own: DataLength, buf: &mut [u8]) -> WriteResult
-        ensures answered { λ r. ⌜ writeAnswer r ≡ beginning self (dataAnswer own) (length (now (buf .entry))) ⌝ }
+    pub fn begin_write(self, own: DataLength, buf: &mut [u8]) -> LengthResult
+        ensures answered { λ r. ⌜ lengthAnswer r ≡ beginning self (dataAnswer own) (length (now (buf .entry))) ⌝ }
         ensures stored { λ _. ⌜ now (buf .exit) ≡ begunMemory self (dataAnswer own) (now (buf .entry)) ⌝ }
     {
         let answer = self.judge_write(own, buf.len());
         match answer {
-            WriteResult::Refused(refusal) => WriteResult::Refused(refusal),
-            WriteResult::Written(written) => {
-                put_header(written.header, buf);
-                WriteResult::Written(written)
+            LengthResult::Refused(refusal) => LengthResult::Refused(refusal),
+            LengthResult::Length(length) => {
+                put_header(self, buf);
+                LengthResult::Length(length)
             }
         }
     }

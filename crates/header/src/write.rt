@@ -4,6 +4,7 @@ ghost use Prim.Native.Nat.{_+_, _*_, _^_, _≤_, _<_};
 ghost use mathlib.Core.List.{[], _∷_, _++_};
 ghost use lib.ListN.{length, drop};
 ghost use Rattle.fields.specs.Answer.{allOf};
+ghost use Rattle.fields.specs.BigEndian.{bePut};
 ghost use Rattle.header.specs.Answers.{lengthAnswer, judgedAnswer};
 ghost use Rattle.header.specs.Header.{headerLength, firstByte, fourthByte, headerBytes};
 ghost use Rattle.header.specs.Judging.{Sound};
@@ -53,6 +54,25 @@ fn fourth_byte(h: PduHeader) -> u8
     beside(control.bit(), 7, seven)
 }
 
+// Stores an identifier as `write_be` does. The widths below 8 are literals, so that one store and no loop is left of each.
+fn put_identifier(buf: &mut [u8], at: usize, width: usize, value: u64)
+    ensures { λ _. ⌜ now (buf .exit) ≡ bePut (now (buf .entry)) at width value ⌝ }
+{
+    if width == 1 {
+        be::write_be(buf, at, 1, value);
+        return;
+    }
+    if width == 2 {
+        be::write_be(buf, at, 2, value);
+        return;
+    }
+    if width == 4 {
+        be::write_be(buf, at, 4, value);
+        return;
+    }
+    be::write_be(buf, at, width, value);
+}
+
 // The header's bytes, at the front of the buffer.
 pub(crate) fn put_header(h: PduHeader, buf: &mut [u8])
     requires { ⌜ Sound h × (headerLength h ≤ length (now buf)) ⌝ }
@@ -71,9 +91,9 @@ pub(crate) fn put_header(h: PduHeader, buf: &mut [u8])
     be::write_be(buf, 0, 1, first);
     be::write_be(buf, 1, 2, length);
     be::write_be(buf, 3, 1, fourth);
-    be::write_be(buf, FIXED_HEADER_LEN, entity, source_id);
-    be::write_be(buf, second, sequence, number);
-    be::write_be(buf, third, entity, destination_id);
+    put_identifier(buf, FIXED_HEADER_LEN, entity, source_id);
+    put_identifier(buf, second, sequence, number);
+    put_identifier(buf, third, entity, destination_id);
 }
 
 // 11: whether a buffer of so many bytes has the room that is needed.

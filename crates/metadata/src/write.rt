@@ -16,7 +16,9 @@ use fields::Refusal;
 use header::CRC_LEN;
 use header::Direction;
 use header::Judged;
+use header::LengthResult;
 use header::pdu::DataLength;
+use header::pdu::PduWritten;
 use header::pdu::WriteResult;
 use header::size;
 use tlv::Form;
@@ -155,14 +157,16 @@ impl MetadataParams {
         ensures stored { λ _. ⌜ now (buf .exit) ≡ metadataMemory self (now (source .entry)) (now (destination .entry)) (now (options .entry)) (now (buf .entry)) ⌝ }
     {
         let header = self.header.with_direction(Direction::TowardsReceiver);
-        let begun = header.begin_write(data_length(self, source, destination, options), buf);
+        let own = data_length(self, source, destination, options);
+        let header = header.with_data(own);
+        let begun = header.begin_write(own, buf);
         match begun {
-            WriteResult::Refused(refusal) => WriteResult::Refused(refusal),
-            WriteResult::Written(written) => {
-                let at = written.header.header_len();
+            LengthResult::Refused(refusal) => WriteResult::Refused(refusal),
+            LengthResult::Length(length) => {
+                let at = header.header_len();
                 put_data(self, source, destination, options, at, buf);
-                written.header.seal(buf);
-                WriteResult::Written(written)
+                header.seal(buf);
+                WriteResult::Written(PduWritten { header, length })
             }
         }
     }

@@ -6,10 +6,9 @@ use mathlib.Core.List.{List, [], _∷_}
 use native.Mathlib.Omega.{arith}
 use lib.ListN.{length, take, drop}
 use borrow.Author.Tests.{ltb-false}
-use Rattle.fields.specs.BigEndian.{numberAt, beAt}
-use Rattle.fields.specs.Answer.{Answer, accepted, told, Test, firstOf, allOf}
+use Rattle.fields.specs.BigEndian.{numberAt}
+use Rattle.fields.specs.Answer.{accepted, told, Test, firstOf, allOf}
 use Rattle.fields.specs.Staged.{run}
-use Rattle.fields.proofs.BigEndian.{at-number}
 use Rattle.fields.proofs.Judging.{judged-passed, all-passed, refused-on}
 use Rattle.header.specs.declared.PduHeader.{PduHeader}
 use Rattle.header.specs.declared.directive.DirectivePdu.{DirectivePdu}
@@ -17,7 +16,6 @@ use Rattle.header.specs.Header.{headerLength, dataEnd}
 use Rattle.header.specs.Directive.{dataShort, readingOwn}
 use Rattle.header.specs.Size.{sizeWidth}
 use Rattle.header.proofs.Directives.{OwnRead, refused-own, read-own}
-use Rattle.header.proofs.Sizes.{size-high}
 use Rattle.nak.specs.declared.Nak.{Nak}
 use Rattle.nak.specs.Nak.{nakCode, areaStart, nakIn}
 use Rattle.nak.specs.Reading.{readingNak}
@@ -28,16 +26,15 @@ pub area-is : (h : PduHeader) (a w : ℕ) → a ≡ headerLength h → w ≡ siz
 unfolding areaStart
 area-is h a w p q = rw (p, q)
 
-pub nak-is : (h : PduHeader) (content : List ℕ) (area stop w x y : ℕ) → area ≡ areaStart h → stop ≡ dataEnd h → area ≤ stop → headerLength h + length content ≡ stop → w ≡ sizeWidth (h .file)
-    → x ≡ beAt content 1 (sizeWidth (h .file)) → y ≡ beAt content (1 + w) (sizeWidth (h .file))
-    → record { header = h; start = x; end = y; area = area; stop = stop; count = (stop - area) / (2 * w) } ≡ nakIn h content
-unfolding nakIn
-nak-is h content area stop w x y pb pe before size pw px py =
-    let W = sizeWidth (h .file) in
-    let long : 1 + 2 * W ≤ length content = omega (arith, sym (area-is h (headerLength h) W refl refl)) in
-    let px′ : x ≡ numberAt content 1 W = px ∙ at-number content 1 W (size-high (h .file)) (omega arith) in
-    let py′ : y ≡ numberAt content (1 + W) W = py ∙ ap (λ (n : ℕ). beAt content (1 + n) W) pw ∙ at-number content (1 + W) W (size-high (h .file)) (omega arith) in
-    rw (px′, py′, pb, pe, pw)
+module _ (h : PduHeader) (content : List ℕ) (area stop : ℕ) (pb : area ≡ areaStart h) (before : area ≤ stop) (size : headerLength h + length content ≡ stop) where
+  -- the scope lies in the data
+  pub scope-lies : 1 + 2 * sizeWidth (h .file) ≤ length content
+  scope-lies = omega (arith, sym (area-is h (headerLength h) (sizeWidth (h .file)) refl refl))
+
+  pub nak-is : (w x y : ℕ) → stop ≡ dataEnd h → w ≡ sizeWidth (h .file) → x ≡ numberAt content 1 (sizeWidth (h .file)) → y ≡ numberAt content (1 + w) (sizeWidth (h .file))
+      → record { header = h; start = x; end = y; area = area; stop = stop; count = (stop - area) / (2 * w) } ≡ nakIn h content
+  unfolding nakIn
+  nak-is w x y pe pw px py = rw (px, py, pb, pe, pw)
 
 -- ---- what is tested behind the code
 

@@ -8,18 +8,18 @@ use native.Mathlib.Omega.{arith}
 use lib.ListN.{length, take, drop, length-append, length-drop}
 use lib.Seq.{sets, length-sets, length-take-le}
 use borrow.Author.Tests.{eq-eqb}
-use Rattle.fields.specs.Answer.{Answer, accepted, told, andThen, Test, firstOf}
+use Rattle.fields.specs.Answer.{Answer, accepted, told, Test, firstOf}
 use Rattle.fields.proofs.BigEndian.{then-sets, sets-append}
 use Rattle.fields.proofs.Judging.{Passed, same-accepted, went, refused-then, accepted-then}
 use Rattle.header.specs.declared.PduHeader.{PduHeader}
 use Rattle.header.specs.declared.pdu.PduWritten.{PduWritten}
 use Rattle.header.specs.declared.flags.LargeFileFlag.{LargeFileFlag}
-use Rattle.header.specs.Header.{headerLength, headerBytes, pduLength, dataEnd, crcLength, withLength}
+use Rattle.header.specs.Header.{headerLength, headerBytes, pduLength, dataEnd, crcLength}
 use Rattle.header.specs.Size.{sizeWidth}
-use Rattle.header.specs.Pdu.{pduOver, writingPdu, beginning, begunMemory, sealedMemory}
+use Rattle.header.specs.Pdu.{pduOver, writingPdu, withData, beginning, begunMemory, sealedMemory}
 use Rattle.header.proofs.Writing.{header-length}
 use Rattle.header.proofs.Verifying.{pdu-sum, end-sum}
-use Rattle.header.proofs.Pdus.{written-has, passes, memory-has, begins, write-refused, begun-passed, begun-header, begun-sets, write-done}
+use Rattle.header.proofs.Pdus.{written-has, passes, memory-has, judged-refused, judged-passed, write-refused, begun-passed, begun-header, begun-room, begun-sets, write-done}
 use Rattle.nak.specs.declared.reserve.ReservedNak.{ReservedNak}
 use Rattle.nak.specs.Nak.{pairSize, areaStart}
 use Rattle.nak.specs.Writing.{numbersBytes, scopeBytes, nakData, dataLength, filled, scopeTooLarge, tooMany, ownTests, writingNak, nakMemory}
@@ -34,18 +34,16 @@ use Rattle.nak.proofs.Storing.{scope-length, data-length, in-place}
 pub place-is : (h : PduHeader) (n a e : ℕ) → a ≡ areaStart h → e ≡ dataEnd h → record { header = h; count = n; area = a; stop = e } ≡ placed h n
 place-is h n a e p q = rw (p, q)
 
-module _ (h : PduHeader) (n room : ℕ) (k : PduHeader) (pk : k ≡ towardsSender (h .file) h) (o : Answer ℕ) (own : o ≡ firstOf (tooMany (h .file) n ∷ []) (dataLength (h .file) (h .crc) n)) where
-  judged : beginning k o room ≡ writingPdu (keeping h n) (tooMany (h .file) n ∷ []) room
-  unfolding filled
-  judged = ap₂ (λ (x : PduHeader) (y : Answer ℕ). beginning x y room) pk own ∙ begins (towardsSender (h .file) h) (tooMany (h .file) n ∷ []) (dataLength (h .file) (h .crc) n) room
-
+module _ (h : PduHeader) (n room : ℕ) (j : PduHeader) (pj : j ≡ towardsSender (h .file) h) (o : Answer ℕ) (own : o ≡ firstOf (tooMany (h .file) n ∷ []) (dataLength (h .file) (h .crc) n))
+    (k : PduHeader) (pk : k ≡ withData o j) where
   pub not-reserved : (ns : List ℕ) → told ns ≡ beginning k o room → told ns ≡ reserving h n room
-  unfolding reserving
-  not-reserved ns e = refused-then _ (λ w. accepted (placed (w .header) n)) ns (e ∙ judged)
+  unfolding reserving filled
+  not-reserved ns e = refused-then _ (λ w. accepted (placed (w .header) n)) ns (judged-refused j (towardsSender (h .file) h) pj (tooMany (h .file) n ∷ []) _ o own k pk room ns e)
 
-  pub reserved-is : (w : PduWritten) (r : ReservedNak) → accepted w ≡ beginning k o room → r ≡ placed (w .header) n → accepted r ≡ reserving h n room
-  unfolding reserving
-  reserved-is w r e p = ap accepted p ∙ accepted-then _ (λ w. accepted (placed (w .header) n)) w (e ∙ judged)
+  pub reserved-is : (p : ℕ) (r : ReservedNak) → accepted p ≡ beginning k o room → r ≡ placed k n → accepted r ≡ reserving h n room
+  unfolding reserving filled
+  reserved-is p r e q =
+      ap accepted q ∙ accepted-then _ (λ w. accepted (placed (w .header) n)) (record { header = k; length = p }) (judged-passed j (towardsSender (h .file) h) pj (tooMany (h .file) n ∷ []) _ o own k pk room p e)
 
 -- ---- finishing
 
@@ -54,8 +52,8 @@ area-size : (h : PduHeader) (n : ℕ) → areaStart (keeping h n) + n * pairSize
 unfolding areaStart filled dataLength
 area-size h n = omega (arith, end-sum (keeping h n), pdu-sum (keeping h n))
 
-module _ (r : ReservedNak) (start end : ℕ) (s : List ℕ) (k : PduHeader) (pk : k ≡ towardsSender (r .header .file) (r .header)) (o : Answer ℕ)
-    (own : o ≡ firstOf (finishTests (r .header .file) (r .count) start end) (dataLength (r .header .file) (r .header .crc) (r .count))) where
+module _ (r : ReservedNak) (start end : ℕ) (s : List ℕ) (j : PduHeader) (pj : j ≡ towardsSender (r .header .file) (r .header)) (o : Answer ℕ)
+    (own : o ≡ firstOf (finishTests (r .header .file) (r .count) start end) (dataLength (r .header .file) (r .header .crc) (r .count))) (k : PduHeader) (pk : k ≡ withData o j) where
   abbrev h : PduHeader
   h = r .header
 
@@ -76,72 +74,71 @@ module _ (r : ReservedNak) (start end : ℕ) (s : List ℕ) (k : PduHeader) (pk 
 
   pub not-finished : (b ns : List ℕ) → told ns ≡ beginning k o (length s) → b ≡ begunMemory k o s → (told ns ≡ finishing r start end (length s)) × (b ≡ finishedMemory r start end s)
   unfolding finishing finishedMemory filled
-  not-finished b ns p q = write-refused k G pk T d o own s content b ns p q
+  not-finished b ns e q = write-refused j G pj T d o own k pk s content b ns e q
 
-  module _ (w : PduWritten) (b : List ℕ) (p : accepted w ≡ beginning k o (length s)) (q : b ≡ begunMemory k o s) where
-    header-is : w .header ≡ keeping h n
+  module _ (p : ℕ) (b : List ℕ) (e : accepted p ≡ beginning k o (length s)) (q : b ≡ begunMemory k o s) where
+    header-is : k ≡ keeping h n
     unfolding filled
-    header-is = begun-header k G pk T d o own s w b p q
+    header-is = begun-header j G pj T d o own k pk (length s) p e
 
-    stored : b ≡ sets s 0 (headerBytes (w .header))
-    stored = begun-sets k G pk T d o own s w b p q
+    stored : b ≡ sets s 0 (headerBytes k)
+    stored = begun-sets j G pj T d o own k pk s p b e q
 
-    flag : w .header .file ≡ h .file
+    flag : k .file ≡ h .file
     unfolding filled
     flag = ap (λ (x : PduHeader). x .file) header-is
 
-    room : pduLength (w .header) ≤ length s
-    unfolding filled
-    room = rw header-is (written-has (keeping h n) T (length s) w (sym (p ∙ ap₂ (λ (x : PduHeader) (y : Answer ℕ). beginning x y (length s)) pk own ∙ begins G T d (length s))) .room-is)
+    room : pduLength k ≤ length s
+    room = begun-room j G pj T d o own k pk (length s) p e
 
-    ends : areaStart (w .header) + n * pairSize (h .file) ≡ dataEnd (w .header)
+    ends : areaStart k + n * pairSize (h .file) ≡ dataEnd k
     ends = rw header-is (area-size h n)
 
-    within : areaStart (w .header) + n * pairSize (h .file) ≤ length s
-    within = omega (arith, ends, end-sum (w .header), room)
+    within : areaStart k + n * pairSize (h .file) ≤ length s
+    within = omega (arith, ends, end-sum k, room)
 
-    area-there : areaStart (w .header) ≡ headerLength (w .header) + (1 + 2 * sizeWidth (h .file))
+    area-there : areaStart k ≡ headerLength k + (1 + 2 * sizeWidth (h .file))
     unfolding areaStart
-    area-there = ap (λ (f : LargeFileFlag). headerLength (w .header) + 1 + 2 * sizeWidth f) flag ∙ omega arith
+    area-there = ap (λ (f : LargeFileFlag). headerLength k + 1 + 2 * sizeWidth f) flag ∙ omega arith
 
-    pub finish-goes : (areaStart (w .header) ≤ length b) × Passed (scopeTooLarge (w .header .file) start end ∷ [])
+    pub finish-goes : (areaStart k ≤ length b) × Passed (scopeTooLarge (k .file) start end ∷ [])
     finish-goes =
-        (omega (arith, within, ap length stored ∙ length-sets s 0 (headerBytes (w .header))), rw flag (finish-fits (h .file) n start end (begun-passed k G pk T d o own s w b p q) .1))
+        (omega (arith, within, ap length stored ∙ length-sets s 0 (headerBytes k)), rw flag (finish-fits (h .file) n start end (begun-passed j G pj T d o own k pk (length s) p e) .1))
 
     -- the area of the header that is handed back
-    area : areaIn (keeping h n) s ≡ take (n * pairSize (h .file)) (drop (areaStart (w .header)) s)
+    area : areaIn (keeping h n) s ≡ take (n * pairSize (h .file)) (drop (areaStart k) s)
     unfolding areaIn
     area =
-        let e : dataEnd (keeping h n) - areaStart (keeping h n) ≡ n * pairSize (h .file) = omega (arith, area-size h n) in
-        ap₂ (λ (x : ℕ) (y : PduHeader). take x (drop (areaStart y) s)) e (sym header-is)
+        let l : dataEnd (keeping h n) - areaStart (keeping h n) ≡ n * pairSize (h .file) = omega (arith, area-size h n) in
+        ap₂ (λ (x : ℕ) (y : PduHeader). take x (drop (areaStart y) s)) l (sym header-is)
 
     area-long : length (areaIn (keeping h n) s) ≡ n * pairSize (h .file)
-    area-long = ap length area ∙ length-take-le (n * pairSize (h .file)) (drop (areaStart (w .header)) s) (omega (arith, length-drop (areaStart (w .header)) s, within))
+    area-long = ap length area ∙ length-take-le (n * pairSize (h .file)) (drop (areaStart k) s) (omega (arith, length-drop (areaStart k) s, within))
 
     size : length content + crcLength (h .crc) ≡ d
     unfolding dataLength
     size = omega (arith, data-length (h .file) start end (areaIn (keeping h n) s), area-long)
 
     -- header and scope were stored, and the request bytes stand behind them
-    around : (b₁ : List ℕ) → b₁ ≡ sets b (headerLength (w .header)) (scopeBytes (w .header .file) start end) → b₁ ≡ sets b (headerLength (w .header)) content
+    around : (b₁ : List ℕ) → b₁ ≡ sets b (headerLength k) (scopeBytes (k .file) start end) → b₁ ≡ sets b (headerLength k) content
     unfolding nakData
     around b₁ q₁ =
-        let H = headerBytes (w .header) in
+        let H = headerBytes k in
         let S = scopeBytes (h .file) start end in
         let A = areaIn (keeping h n) s in
-        let a = headerLength (w .header) in
-        let lH : length H ≡ a = header-length (w .header) in
-        let lHS : length (H ++ S) ≡ areaStart (w .header) = length-append H S ∙ omega (arith, lH, scope-length (h .file) start end, area-there) in
+        let a = headerLength k in
+        let lH : length H ≡ a = header-length k in
+        let lHS : length (H ++ S) ≡ areaStart k = length-append H S ∙ omega (arith, lH, scope-length (h .file) start end, area-there) in
         let e₁ : b₁ ≡ sets s 0 (H ++ S) = then-sets H S s a lH stored (q₁ ∙ ap (λ (f : LargeFileFlag). sets b a (scopeBytes f start end)) flag) in
         let e₂ : sets s 0 (H ++ S) ≡ sets s 0 ((H ++ S) ++ A) =
         in-place (H ++ S) s (n * pairSize (h .file)) (omega (arith, lHS, within)) ∙ ap (λ (x : List ℕ). sets s 0 ((H ++ S) ++ x)) (ap (λ (j : ℕ). take (n * pairSize (h .file)) (drop j s)) lHS ∙ sym area) in
         let e₃ : sets s 0 (H ++ (S ++ A)) ≡ sets b a (S ++ A) = sets-append H (S ++ A) s 0 ∙ ap₂ (λ (l : List ℕ) (i : ℕ). sets l i (S ++ A)) (sym stored) (zero-add (length H) ∙ lH) in
         e₁ ∙ e₂ ∙ ap (sets s 0) (append-assoc H S A) ∙ e₃
 
-    pub finished : (b₁ b₂ : List ℕ) → b₁ ≡ sets b (headerLength (w .header)) (scopeBytes (w .header .file) start end) → b₂ ≡ sealedMemory (w .header) b₁
-        → (accepted w ≡ finishing r start end (length s)) × (b₂ ≡ finishedMemory r start end s)
+    pub finished : (b₁ b₂ : List ℕ) → b₁ ≡ sets b (headerLength k) (scopeBytes (k .file) start end) → b₂ ≡ sealedMemory k b₁
+        → (accepted (record { header = k; length = p }) ≡ finishing r start end (length s)) × (b₂ ≡ finishedMemory r start end s)
     unfolding finishing finishedMemory filled
-    finished b₁ b₂ q₁ e₂ = write-done k G pk T d o own s w b p q content size (headerLength (w .header)) refl b₁ b₂ (around b₁ q₁) e₂
+    finished b₁ b₂ q₁ e₂ = write-done j G pj T d o own k pk s p b e q content size (headerLength k) refl b₁ b₂ (around b₁ q₁) e₂
 
 -- ---- what can be finished could be written, with as many pairs lent
 

@@ -11,7 +11,7 @@ use lib.ListN.{length, take, drop}
 use borrow.Author.Tests.{le-leb, lt-leb, leb-false, eq-eqb, ne-eqb}
 use Rattle.fields.specs.Choice.{if_then_else_}
 use Rattle.fields.specs.BigEndian.{numberAt, beAt}
-use Rattle.fields.proofs.BigEndian.{at-number}
+use Rattle.fields.proofs.Parts.{part-read}
 use Rattle.header.specs.declared.flags.LargeFileFlag.{LargeFileFlag}
 use Rattle.header.specs.declared.flags.LargeFileFlag.the-variants.{Normal, Large}
 use Rattle.nak.specs.declared.Nak.{Nak}
@@ -48,6 +48,16 @@ module _ (n : Nak) (s : List ℕ) where
   unfolding requestsOf
   some-requests a e z = rw (← e, ne-eqb _ _ z)
 
+-- ---- a number whose bytes are there
+
+module _ (file f : LargeFileFlag) (pf : file ≡ f) (s : List ℕ) (at : ℕ) (there : at + sizeWidth file ≤ length s) where
+  pub offset-there : at + sizeWidth f ≤ length s
+  offset-there = omega (arith, ap sizeWidth pf)
+
+  -- read from a part of just its bytes
+  pub offset-read : (r : ℕ) → r ≡ beAt (take (at + sizeWidth f - at) (drop at s)) 0 (sizeWidth f) → r ≡ numberAt s at (sizeWidth file)
+  offset-read r q = q ∙ part-read s at (sizeWidth f) (at + sizeWidth f) refl (size-high f) offset-there ∙ ap (λ (x : LargeFileFlag). numberAt s at (sizeWidth x)) (sym pf)
+
 -- ---- the pairs of an area, and one step
 
 pub pairs-are : (file : LargeFileFlag) (a : List ℕ) → pairsOf file a ≡ pairsFrom (sizeWidth file) a 0 (length a / pairSize file)
@@ -59,14 +69,12 @@ pub shows-pair : (a : List ℕ) (file : LargeFileFlag) (at : ℕ) → at + pairS
 unfolding nextRequest
 shows-pair a file at l = rw (le-leb _ _ l)
 
-pub next-pair : (a : List ℕ) (file : LargeFileFlag) (at w x y : ℕ) → w ≡ sizeWidth file → at + 2 * w ≤ length a → x ≡ beAt a at (sizeWidth file) → y ≡ beAt a (at + w) (sizeWidth file)
+pub next-pair : (a : List ℕ) (file : LargeFileFlag) (at w x y : ℕ) → w ≡ sizeWidth file → at + 2 * w ≤ length a → x ≡ numberAt a at (sizeWidth file) → y ≡ numberAt a (at + w) (sizeWidth file)
     → Pair x y (record { at = at + 2 * w }) ≡ nextRequest a file at
 unfolding nextRequest
 next-pair a file at w x y e l p q =
     let l′ : at + 2 * sizeWidth file ≤ length a = omega (arith, e) in
-    let p′ : x ≡ numberAt a at (sizeWidth file) = p ∙ at-number a at (sizeWidth file) (size-high file) (omega arith) in
-    let q′ : y ≡ numberAt a (at + w) (sizeWidth file) = q ∙ at-number a (at + w) (sizeWidth file) (size-high file) (omega (arith, e)) in
-    rw (p′, q′, e, le-leb _ _ l′)
+    rw (p, q, e, le-leb _ _ l′)
 
 pub next-end : (a : List ℕ) (file : LargeFileFlag) (at w : ℕ) → w ≡ sizeWidth file → length a < at + 2 * w → End ≡ nextRequest a file at
 unfolding nextRequest

@@ -1,8 +1,13 @@
 // Layer 3 of the codec: the NAK PDU (the Rust's `cfdp/pdu/nak.rs`): read, its requests walked, written, reserved and finished, counted, compared.
 ghost use mathlib.Core.Path.{_≡_};
-ghost use Prim.Native.Nat.{_≤_};
+ghost use Prim.Native.Nat.{_+_, _≤_};
+ghost use lib.ListN.{length};
+ghost use Rattle.fields.specs.BigEndian.{numberAt};
+ghost use Rattle.header.specs.Size.{sizeWidth};
 ghost use Rattle.nak.specs.Nak.{areaStart};
 use fields::Refusal;
+use fields::be;
+use header::LargeFileFlag;
 use header::PduHeader;
 use header::size;
 
@@ -46,4 +51,16 @@ fn area_start(header: PduHeader) -> usize
 {
     let file = header.file;
     header.header_len() + SCOPE_AT + 2 * size::size_width(file)
+}
+
+// The number at a place whose bytes were seen to be there: it is not tested again, each width is a literal and each part has just so many
+// bytes, so that no test and no loop is left of a read.
+fn offset_at(s: &[u8], at: usize, file: LargeFileFlag) -> u64
+    requires { ⌜ at + sizeWidth file ≤ length (now s) ⌝ }
+    ensures { λ r. ⌜ r ≡ numberAt (now (s .entry)) at (sizeWidth file) ⌝ }
+{
+    match file {
+        LargeFileFlag::Normal => be::read_be(&s[at..at + 4], 0, 4),
+        LargeFileFlag::Large => be::read_be(&s[at..at + 8], 0, 8),
+    }
 }

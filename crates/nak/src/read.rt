@@ -11,12 +11,12 @@ use crate::Nak;
 use crate::NakResult;
 use crate::SCOPE_AT;
 use crate::area_start;
+use crate::offset_at;
 use header::Judged;
 use header::PduHeader;
 use header::directive::DirectivePdu;
 use header::directive::DirectiveResult;
 use header::directive::judge_data;
-use header::size::read_size;
 use header::size::size_width;
 
 // The NAK in its data, which end at `stop`, behind the scope.
@@ -26,8 +26,8 @@ fn nak_in(header: PduHeader, content: &[u8], area: usize, stop: usize) -> Nak
 {
     let file = header.file;
     let width = size_width(file);
-    let start_of_scope = read_size(content, SCOPE_AT, file);
-    let end_of_scope = read_size(content, SCOPE_AT + width, file);
+    let start_of_scope = offset_at(content, SCOPE_AT, file);
+    let end_of_scope = offset_at(content, SCOPE_AT + width, file);
     let count = (stop - area) / (2 * width);
     Nak {
         header,

@@ -2,8 +2,8 @@
 ghost use mathlib.Core.Path.{_≡_};
 ghost use Rattle.nak.specs.Requests.{areaOf, nextRequest, requestsOf};
 use crate::Nak;
+use crate::offset_at;
 use header::LargeFileFlag;
-use header::size::read_size;
 use header::size::size_width;
 
 // A position in a request area.
@@ -66,8 +66,8 @@ impl RequestCursor {
             return NextRequest::End;
         }
         NextRequest::Pair {
-            start: read_size(area, at, file),
-            end: read_size(area, at + width, file),
+            start: offset_at(area, at, file),
+            end: offset_at(area, at + width, file),
             next: RequestCursor { at: at + 2 * width },
         }
     }

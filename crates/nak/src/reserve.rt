@@ -12,8 +12,10 @@ use fields::Refusal;
 use header::CrcFlag;
 use header::Judged;
 use header::LargeFileFlag;
+use header::LengthResult;
 use header::PduHeader;
 use header::pdu::DataLength;
+use header::pdu::PduWritten;
 use header::pdu::WriteResult;
 
 // The header that was reserved for, the pairs, and where their bytes start and stop in the buffer.
@@ -84,12 +86,11 @@ impl ReservedNak {
         let file = header.file;
         let crc = header.crc;
         let own = pairs_length(file, crc, count);
-        let judged = write::towards_sender(header, file).judge_write(own, buf.len());
+        let header = write::towards_sender(header, file).with_data(own);
+        let judged = header.judge_write(own, buf.len());
         match judged {
-            WriteResult::Refused(refusal) => ReserveResult::Refused(refusal),
-            WriteResult::Written(written) => {
-                ReserveResult::Reserved(place(written.header, count))
-            }
+            LengthResult::Refused(refusal) => ReserveResult::Refused(refusal),
+            LengthResult::Length(_) => ReserveResult::Reserved(place(header, count)),
         }
     }
 
@@ -102,14 +103,14 @@ impl ReservedNak {
         let file = given.file;
         let crc = given.crc;
         let own = finished_length(file, crc, self.count, start, end);
-        let begun = write::towards_sender(given, file).begin_write(own, buf);
+        let header = write::towards_sender(given, file).with_data(own);
+        let begun = header.begin_write(own, buf);
         match begun {
-            WriteResult::Refused(refusal) => WriteResult::Refused(refusal),
-            WriteResult::Written(written) => {
-                let header = written.header;
+            LengthResult::Refused(refusal) => WriteResult::Refused(refusal),
+            LengthResult::Length(length) => {
                 write::put_scope(buf, header, start, end);
                 header.seal(buf);
-                WriteResult::Written(written)
+                WriteResult::Written(PduWritten { header, length })
             }
         }
     }

@@ -22,8 +22,10 @@ use header::CrcFlag;
 use header::Direction;
 use header::Judged;
 use header::LargeFileFlag;
+use header::LengthResult;
 use header::PduHeader;
 use header::pdu::DataLength;
+use header::pdu::PduWritten;
 use header::pdu::WriteResult;
 use header::size;
 
@@ -195,14 +197,14 @@ pub fn write_no_segment_requests(
     let file = header.file;
     let crc = header.crc;
     let own = data_length(file, crc, start, end, 0);
-    let begun = towards_sender(header, file).begin_write(own, buf);
+    let header = towards_sender(header, file).with_data(own);
+    let begun = header.begin_write(own, buf);
     match begun {
-        WriteResult::Refused(refusal) => WriteResult::Refused(refusal),
-        WriteResult::Written(written) => {
-            let header = written.header;
+        LengthResult::Refused(refusal) => WriteResult::Refused(refusal),
+        LengthResult::Length(length) => {
             put_scope(buf, header, start, end);
             header.seal(buf);
-            WriteResult::Written(written)
+            WriteResult::Written(PduWritten { header, length })
         }
     }
 }
@@ -220,15 +222,15 @@ pub fn write_normal_file_size(
 {
     let crc = header.crc;
     let own = data_length(LargeFileFlag::Normal, crc, start, end, numbers.len());
-    let begun = towards_sender(header, LargeFileFlag::Normal).begin_write(own, buf);
+    let header = towards_sender(header, LargeFileFlag::Normal).with_data(own);
+    let begun = header.begin_write(own, buf);
     match begun {
-        WriteResult::Refused(refusal) => WriteResult::Refused(refusal),
-        WriteResult::Written(written) => {
-            let header = written.header;
+        LengthResult::Refused(refusal) => WriteResult::Refused(refusal),
+        LengthResult::Length(length) => {
             put_scope(buf, header, start, end);
             put_normal(buf, area_start(header), numbers);
             header.seal(buf);
-            WriteResult::Written(written)
+            WriteResult::Written(PduWritten { header, length })
         }
     }
 }
@@ -246,15 +248,15 @@ pub fn write_large_file_size(
 {
     let crc = header.crc;
     let own = data_length(LargeFileFlag::Large, crc, start, end, numbers.len());
-    let begun = towards_sender(header, LargeFileFlag::Large).begin_write(own, buf);
+    let header = towards_sender(header, LargeFileFlag::Large).with_data(own);
+    let begun = header.begin_write(own, buf);
     match begun {
-        WriteResult::Refused(refusal) => WriteResult::Refused(refusal),
-        WriteResult::Written(written) => {
-            let header = written.header;
+        LengthResult::Refused(refusal) => WriteResult::Refused(refusal),
+        LengthResult::Length(length) => {
             put_scope(buf, header, start, end);
             put_large(buf, area_start(header), numbers);
             header.seal(buf);
-            WriteResult::Written(written)
+            WriteResult::Written(PduWritten { header, length })
         }
     }
 }

@@ -3,7 +3,7 @@
 use mathlib.Core.Path.{sym, ap, _∙_}
 use native.Mathlib.Omega.{arith}
 use Rattle.header.specs.Header.{withDirection}
-use Rattle.header.specs.Pdu.{writeAnswer}
+use Rattle.header.specs.Answers.{lengthAnswer}
 use Rattle.header.proofs.Pdus.{write-refused, begun-passed, data-goes, write-done}
 use Rattle.ack.specs.Writing.{ackData, filled, ownTests, writingAck, ackMemory}
 use Rattle.ack.proofs.Data.{data-size, length-is}
@@ -20,6 +20,9 @@ with-direction-requires c κs = search needs
 data-length-requires : tie.Need-data-length-requires
 data-length-requires c κs = search needs
 
+with-data-requires : tie.Need-with-data-requires
+with-data-requires c κs = search needs
+
 begin-write-requires : tie.Need-begin-write-requires
 begin-write-requires c κs = search needs
 
@@ -33,7 +36,7 @@ header-len-requires : tie.Need-header-len-requires
 header-len-requires c κs = search needs
 
 put-data-requires : tie.Need-put-data-requires
-put-data-requires c κs = (omega (arith, data-goes _ _ (c .before .before .before .before .before .before .before .before .before .before .with-direction .ensures ∙ ap (λ d. withDirection d (c .before .before .before .before .before .before .before .before .before .before .before .before .before .args .self .header)) (c .before .before .before .before .before .before .before .before .before .before .before .direction-for .ensures)) (ownTests (c .before .before .before .before .before .before .before .before .before .before .before .before .before .args .self)) _ _ (c .before .before .before .before .before .before .before .before .before .data-length .ensures) _ _ _ (ap writeAnswer (sym (c .before .before .before .begun2 .given .1)) ∙ c .before .before .before .before .before .before .before .begin-write .ensures .0) (c .before .before .before .before .before .before .before .begin-write .ensures .1) (ackData (c .before .before .before .before .before .before .before .before .before .before .before .before .before .args .self)) (length-is (c .before .before .before .before .before .before .before .before .before .before .before .before .before .args .self)) _ (c .before .header-len .ensures .0), data-size (c .before .before .before .before .before .before .before .before .before .before .before .before .before .args .self)), begun-passed _ _ (c .before .before .before .before .before .before .before .before .before .before .with-direction .ensures ∙ ap (λ d. withDirection d (c .before .before .before .before .before .before .before .before .before .before .before .before .before .args .self .header)) (c .before .before .before .before .before .before .before .before .before .before .before .direction-for .ensures)) (ownTests (c .before .before .before .before .before .before .before .before .before .before .before .before .before .args .self)) _ _ (c .before .before .before .before .before .before .before .before .before .data-length .ensures) _ _ _ (ap writeAnswer (sym (c .before .before .before .begun2 .given .1)) ∙ c .before .before .before .before .before .before .before .begin-write .ensures .0) (c .before .before .before .before .before .before .before .begin-write .ensures .1))
+put-data-requires c κs = (omega (arith, data-goes _ _ (c .before .before .before .before .before .before .before .before .before .before .before .with-direction .ensures ∙ ap (λ d. withDirection d (c .before .before .before .before .before .before .before .before .before .before .before .before .before .before .args .self .header)) (c .before .before .before .before .before .before .before .before .before .before .before .before .direction-for .ensures)) (ownTests (c .before .before .before .before .before .before .before .before .before .before .before .before .before .before .args .self)) _ _ (c .before .before .before .before .before .before .before .before .before .before .data-length .ensures) _ (c .before .before .before .before .before .before .before .before .before .with-data .ensures) _ _ _ (ap lengthAnswer (sym (c .before .before .before .begun2 .given .1)) ∙ c .before .before .before .before .before .before .before .begin-write .ensures .0) (c .before .before .before .before .before .before .before .begin-write .ensures .1) (ackData (c .before .before .before .before .before .before .before .before .before .before .before .before .before .before .args .self)) (length-is (c .before .before .before .before .before .before .before .before .before .before .before .before .before .before .args .self)) _ (c .before .header-len .ensures .0), data-size (c .before .before .before .before .before .before .before .before .before .before .before .before .before .before .args .self)), begun-passed _ _ (c .before .before .before .before .before .before .before .before .before .before .before .with-direction .ensures ∙ ap (λ d. withDirection d (c .before .before .before .before .before .before .before .before .before .before .before .before .before .before .args .self .header)) (c .before .before .before .before .before .before .before .before .before .before .before .before .direction-for .ensures)) (ownTests (c .before .before .before .before .before .before .before .before .before .before .before .before .before .before .args .self)) _ _ (c .before .before .before .before .before .before .before .before .before .before .data-length .ensures) _ (c .before .before .before .before .before .before .before .before .before .with-data .ensures) _ _ (ap lengthAnswer (sym (c .before .before .before .begun2 .given .1)) ∙ c .before .before .before .before .before .before .before .begin-write .ensures .0))
 
 seal-requires : tie.Need-seal-requires
 seal-requires c κs = search needs
@@ -43,14 +46,14 @@ same-length c = search needs
 
 returns : tie.Need-returns
 unfolding writingAck ackMemory filled
-returns c = write-refused _ _ (c .before .before .before .before .before .before .before .before .with-direction .ensures ∙ ap (λ d. withDirection d (c .before .before .before .before .before .before .before .before .before .before .before .args .self .header)) (c .before .before .before .before .before .before .before .before .before .direction-for .ensures)) (ownTests (c .before .before .before .before .before .before .before .before .before .before .before .args .self)) _ _ (c .before .before .before .before .before .before .before .data-length .ensures) _ (ackData (c .before .before .before .before .before .before .before .before .before .before .before .args .self)) _ _ (ap writeAnswer (sym (c .before .begun .given .1)) ∙ c .before .before .before .before .before .begin-write .ensures .0) (c .before .before .before .before .before .begin-write .ensures .1)
+returns c = write-refused _ _ (c .before .before .before .before .before .before .before .before .before .with-direction .ensures ∙ ap (λ d. withDirection d (c .before .before .before .before .before .before .before .before .before .before .before .before .args .self .header)) (c .before .before .before .before .before .before .before .before .before .before .direction-for .ensures)) (ownTests (c .before .before .before .before .before .before .before .before .before .before .before .before .args .self)) _ _ (c .before .before .before .before .before .before .before .before .data-length .ensures) _ (c .before .before .before .before .before .before .before .with-data .ensures) _ (ackData (c .before .before .before .before .before .before .before .before .before .before .before .before .args .self)) _ _ (ap lengthAnswer (sym (c .before .begun .given .1)) ∙ c .before .before .before .before .before .begin-write .ensures .0) (c .before .before .before .before .before .begin-write .ensures .1)
 
 same-length-2 : tie.Need-same-length-2
 same-length-2 c = search needs
 
 returns-2 : tie.Need-returns-2
 unfolding writingAck ackMemory filled
-returns-2 c = write-done _ _ (c .before .before .before .before .before .before .before .before .before .before .before .before .before .before .before .before .before .with-direction .ensures ∙ ap (λ d. withDirection d (c .before .before .before .before .before .before .before .before .before .before .before .before .before .before .before .before .before .before .before .before .args .self .header)) (c .before .before .before .before .before .before .before .before .before .before .before .before .before .before .before .before .before .before .direction-for .ensures)) (ownTests (c .before .before .before .before .before .before .before .before .before .before .before .before .before .before .before .before .before .before .before .before .args .self)) _ _ (c .before .before .before .before .before .before .before .before .before .before .before .before .before .before .before .before .data-length .ensures) _ _ _ (ap writeAnswer (sym (c .before .before .before .before .before .before .before .before .before .before .begun2 .given .1)) ∙ c .before .before .before .before .before .before .before .before .before .before .before .before .before .before .begin-write .ensures .0) (c .before .before .before .before .before .before .before .before .before .before .before .before .before .before .begin-write .ensures .1) (ackData (c .before .before .before .before .before .before .before .before .before .before .before .before .before .before .before .before .before .before .before .before .args .self)) (length-is (c .before .before .before .before .before .before .before .before .before .before .before .before .before .before .before .before .before .before .before .before .args .self)) _ (c .before .before .before .before .before .before .before .before .header-len .ensures .0) _ _ (c .before .before .before .before .before .before .put-data .ensures) (c .before .before .seal .ensures)
+returns-2 c = write-done _ _ (c .before .before .before .before .before .before .before .before .before .before .before .before .before .before .before .before .before .before .with-direction .ensures ∙ ap (λ d. withDirection d (c .before .before .before .before .before .before .before .before .before .before .before .before .before .before .before .before .before .before .before .before .before .args .self .header)) (c .before .before .before .before .before .before .before .before .before .before .before .before .before .before .before .before .before .before .before .direction-for .ensures)) (ownTests (c .before .before .before .before .before .before .before .before .before .before .before .before .before .before .before .before .before .before .before .before .before .args .self)) _ _ (c .before .before .before .before .before .before .before .before .before .before .before .before .before .before .before .before .before .data-length .ensures) _ (c .before .before .before .before .before .before .before .before .before .before .before .before .before .before .before .before .with-data .ensures) _ _ _ (ap lengthAnswer (sym (c .before .before .before .before .before .before .before .before .before .before .begun2 .given .1)) ∙ c .before .before .before .before .before .before .before .before .before .before .before .before .before .before .begin-write .ensures .0) (c .before .before .before .before .before .before .before .before .before .before .before .before .before .before .begin-write .ensures .1) (ackData (c .before .before .before .before .before .before .before .before .before .before .before .before .before .before .before .before .before .before .before .before .before .args .self)) (length-is (c .before .before .before .before .before .before .before .before .before .before .before .before .before .before .before .before .before .before .before .before .before .args .self)) _ (c .before .before .before .before .before .before .before .before .header-len .ensures .0) _ _ (c .before .before .before .before .before .before .put-data .ensures) (c .before .before .seal .ensures)
 
 pub write-to-slice-spec : {M : Type 1} → statement M
 write-to-slice-spec =
@@ -59,6 +62,7 @@ write-to-slice-spec =
     direction-for-requires
     with-direction-requires
     data-length-requires
+    with-data-requires
     begin-write-requires
     enum-known-begun
     enum-known-begun-2

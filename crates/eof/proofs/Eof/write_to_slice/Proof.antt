@@ -2,7 +2,7 @@
 -- Assumes nothing.
 use mathlib.Core.Path.{sym, ap, _∙_}
 use native.Mathlib.Omega.{arith}
-use Rattle.header.specs.Pdu.{writeAnswer}
+use Rattle.header.specs.Answers.{lengthAnswer}
 use Rattle.header.proofs.Pdus.{write-refused, begun-passed, data-goes, write-done}
 use Rattle.eof.specs.Writing.{eofData, filled, ownTests, writingEof, eofMemory}
 use Rattle.eof.proofs.Data.{size-of, length-is}
@@ -15,6 +15,9 @@ with-direction-requires c κs = search needs
 
 data-length-requires : tie.Need-data-length-requires
 data-length-requires c κs = search needs
+
+with-data-requires : tie.Need-with-data-requires
+with-data-requires c κs = search needs
 
 begin-write-requires : tie.Need-begin-write-requires
 begin-write-requires c κs = search needs
@@ -29,7 +32,7 @@ header-len-requires : tie.Need-header-len-requires
 header-len-requires c κs = search needs
 
 put-data-requires : tie.Need-put-data-requires
-put-data-requires c κs = (omega (arith, data-goes _ _ (c .before .before .before .before .before .before .before .before .before .before .with-direction .ensures) (ownTests (c .before .before .before .before .before .before .before .before .before .before .before .before .args .self)) _ _ (c .before .before .before .before .before .before .before .before .before .data-length .ensures) _ _ _ (ap writeAnswer (sym (c .before .before .before .begun2 .given .1)) ∙ c .before .before .before .before .before .before .before .begin-write .ensures .0) (c .before .before .before .before .before .before .before .begin-write .ensures .1) (eofData (c .before .before .before .before .before .before .before .before .before .before .before .before .args .self)) (length-is (c .before .before .before .before .before .before .before .before .before .before .before .before .args .self)) _ (c .before .header-len .ensures .0), size-of (c .before .before .before .before .before .before .before .before .before .before .before .before .args .self)), begun-passed _ _ (c .before .before .before .before .before .before .before .before .before .before .with-direction .ensures) (ownTests (c .before .before .before .before .before .before .before .before .before .before .before .before .args .self)) _ _ (c .before .before .before .before .before .before .before .before .before .data-length .ensures) _ _ _ (ap writeAnswer (sym (c .before .before .before .begun2 .given .1)) ∙ c .before .before .before .before .before .before .before .begin-write .ensures .0) (c .before .before .before .before .before .before .before .begin-write .ensures .1))
+put-data-requires c κs = (omega (arith, data-goes _ _ (c .before .before .before .before .before .before .before .before .before .before .before .with-direction .ensures) (ownTests (c .before .before .before .before .before .before .before .before .before .before .before .before .before .args .self)) _ _ (c .before .before .before .before .before .before .before .before .before .before .data-length .ensures) _ (c .before .before .before .before .before .before .before .before .before .with-data .ensures) _ _ _ (ap lengthAnswer (sym (c .before .before .before .begun2 .given .1)) ∙ c .before .before .before .before .before .before .before .begin-write .ensures .0) (c .before .before .before .before .before .before .before .begin-write .ensures .1) (eofData (c .before .before .before .before .before .before .before .before .before .before .before .before .before .args .self)) (length-is (c .before .before .before .before .before .before .before .before .before .before .before .before .before .args .self)) _ (c .before .header-len .ensures .0), size-of (c .before .before .before .before .before .before .before .before .before .before .before .before .before .args .self)), begun-passed _ _ (c .before .before .before .before .before .before .before .before .before .before .before .with-direction .ensures) (ownTests (c .before .before .before .before .before .before .before .before .before .before .before .before .before .args .self)) _ _ (c .before .before .before .before .before .before .before .before .before .before .data-length .ensures) _ (c .before .before .before .before .before .before .before .before .before .with-data .ensures) _ _ (ap lengthAnswer (sym (c .before .before .before .begun2 .given .1)) ∙ c .before .before .before .before .before .before .before .begin-write .ensures .0))
 
 seal-requires : tie.Need-seal-requires
 seal-requires c κs = search needs
@@ -39,14 +42,14 @@ same-length c = search needs
 
 returns : tie.Need-returns
 unfolding writingEof eofMemory filled
-returns c = write-refused _ _ (c .before .before .before .before .before .before .before .before .with-direction .ensures) (ownTests (c .before .before .before .before .before .before .before .before .before .before .args .self)) _ _ (c .before .before .before .before .before .before .before .data-length .ensures) _ (eofData (c .before .before .before .before .before .before .before .before .before .before .args .self)) _ _ (ap writeAnswer (sym (c .before .begun .given .1)) ∙ c .before .before .before .before .before .begin-write .ensures .0) (c .before .before .before .before .before .begin-write .ensures .1)
+returns c = write-refused _ _ (c .before .before .before .before .before .before .before .before .before .with-direction .ensures) (ownTests (c .before .before .before .before .before .before .before .before .before .before .before .args .self)) _ _ (c .before .before .before .before .before .before .before .before .data-length .ensures) _ (c .before .before .before .before .before .before .before .with-data .ensures) _ (eofData (c .before .before .before .before .before .before .before .before .before .before .before .args .self)) _ _ (ap lengthAnswer (sym (c .before .begun .given .1)) ∙ c .before .before .before .before .before .begin-write .ensures .0) (c .before .before .before .before .before .begin-write .ensures .1)
 
 same-length-2 : tie.Need-same-length-2
 same-length-2 c = search needs
 
 returns-2 : tie.Need-returns-2
 unfolding writingEof eofMemory filled
-returns-2 c = write-done _ _ (c .before .before .before .before .before .before .before .before .before .before .before .before .before .before .before .before .before .with-direction .ensures) (ownTests (c .before .before .before .before .before .before .before .before .before .before .before .before .before .before .before .before .before .before .before .args .self)) _ _ (c .before .before .before .before .before .before .before .before .before .before .before .before .before .before .before .before .data-length .ensures) _ _ _ (ap writeAnswer (sym (c .before .before .before .before .before .before .before .before .before .before .begun2 .given .1)) ∙ c .before .before .before .before .before .before .before .before .before .before .before .before .before .before .begin-write .ensures .0) (c .before .before .before .before .before .before .before .before .before .before .before .before .before .before .begin-write .ensures .1) (eofData (c .before .before .before .before .before .before .before .before .before .before .before .before .before .before .before .before .before .before .before .args .self)) (length-is (c .before .before .before .before .before .before .before .before .before .before .before .before .before .before .before .before .before .before .before .args .self)) _ (c .before .before .before .before .before .before .before .before .header-len .ensures .0) _ _ (c .before .before .before .before .before .before .put-data .ensures) (c .before .before .seal .ensures)
+returns-2 c = write-done _ _ (c .before .before .before .before .before .before .before .before .before .before .before .before .before .before .before .before .before .before .with-direction .ensures) (ownTests (c .before .before .before .before .before .before .before .before .before .before .before .before .before .before .before .before .before .before .before .before .args .self)) _ _ (c .before .before .before .before .before .before .before .before .before .before .before .before .before .before .before .before .before .data-length .ensures) _ (c .before .before .before .before .before .before .before .before .before .before .before .before .before .before .before .before .with-data .ensures) _ _ _ (ap lengthAnswer (sym (c .before .before .before .before .before .before .before .before .before .before .begun2 .given .1)) ∙ c .before .before .before .before .before .before .before .before .before .before .before .before .before .before .begin-write .ensures .0) (c .before .before .before .before .before .before .before .before .before .before .before .before .before .before .begin-write .ensures .1) (eofData (c .before .before .before .before .before .before .before .before .before .before .before .before .before .before .before .before .before .before .before .before .args .self)) (length-is (c .before .before .before .before .before .before .before .before .before .before .before .before .before .before .before .before .before .before .before .before .args .self)) _ (c .before .before .before .before .before .before .before .before .header-len .ensures .0) _ _ (c .before .before .before .before .before .before .put-data .ensures) (c .before .before .seal .ensures)
 
 pub write-to-slice-spec : {M : Type 1} → statement M
 write-to-slice-spec =
@@ -54,6 +57,7 @@ write-to-slice-spec =
     (tie.spec
     with-direction-requires
     data-length-requires
+    with-data-requires
     begin-write-requires
     enum-known-begun
     enum-known-begun-2

@@ -1,7 +1,7 @@
 -- `header::PduHeader::begin_write` meets its contract: the answer, and the buffer that goes with it.
 -- Assumes nothing.
 use mathlib.Core.Path.{sym, ap, _∙_}
-use Rattle.header.specs.Pdu.{writeAnswer}
+use Rattle.header.specs.Answers.{lengthAnswer}
 use Rattle.header.proofs.Pdus.{storable, nothing-begun, header-begun}
 use borrow.Author.Needs.{needs}
 use Rattle.header.proofs.PduHeader.begin_write.Statement.{statement}
@@ -17,16 +17,16 @@ enum-known-answer-2 : tie.Need-enum-known-answer-2
 enum-known-answer-2 c = search needs
 
 put-header-requires : tie.Need-put-header-requires
-put-header-requires c κs = storable _ _ _ _ (ap writeAnswer (sym (c .before .before .answer2 .given .1)) ∙ c .before .before .before .before .judge-write .ensures)
+put-header-requires c κs = storable _ _ _ _ (ap lengthAnswer (sym (c .before .before .answer2 .given .1)) ∙ c .before .before .before .before .judge-write .ensures)
 
 returns : tie.Need-returns
-returns c = nothing-begun _ _ _ _ (ap writeAnswer (sym (c .before .answer .given .1)) ∙ c .before .before .before .judge-write .ensures)
+returns c = nothing-begun _ _ _ _ (ap lengthAnswer (sym (c .before .answer .given .1)) ∙ c .before .before .before .judge-write .ensures)
 
 same-length : tie.Need-same-length
 same-length c = search needs
 
 returns-2 : tie.Need-returns-2
-returns-2 c = header-begun _ _ _ _ _ (ap writeAnswer (sym (c .before .before .before .before .before .answer2 .given .1)) ∙ c .before .before .before .before .before .before .before .judge-write .ensures) (c .before .before .put-header .ensures)
+returns-2 c = header-begun _ _ _ _ _ (ap lengthAnswer (sym (c .before .before .before .before .before .answer2 .given .1)) ∙ c .before .before .before .before .before .before .before .judge-write .ensures) (c .before .before .put-header .ensures)
 
 pub begin-write-spec : {M : Type 1} → statement M
 begin-write-spec =

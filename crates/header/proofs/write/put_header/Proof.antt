@@ -42,14 +42,14 @@ write-be-requires-2 c κs = search needs
 write-be-requires-3 : tie.Need-write-be-requires-3
 write-be-requires-3 c κs = search needs
 
-write-be-requires-4 : tie.Need-write-be-requires-4
-write-be-requires-4 c κs = search needs
+put-identifier-requires : tie.Need-put-identifier-requires
+put-identifier-requires c κs = search needs
 
-write-be-requires-5 : tie.Need-write-be-requires-5
-write-be-requires-5 c κs = search needs
+put-identifier-requires-2 : tie.Need-put-identifier-requires-2
+put-identifier-requires-2 c κs = search needs
 
-write-be-requires-6 : tie.Need-write-be-requires-6
-write-be-requires-6 c κs = search needs
+put-identifier-requires-3 : tie.Need-put-identifier-requires-3
+put-identifier-requires-3 c κs = search needs
 
 same-length : tie.Need-same-length
 same-length c = search needs
@@ -57,7 +57,7 @@ same-length c = search needs
 returns : tie.Need-returns
 returns c =
     fields-put _ _ _ _ _ _ _ _ _ _ (c .before .before .before .before .before .before .before .before .before .before .before .before .before .before .before .before .before .before .before .before .before .before .before .before .before .before .before .before .before .before .pre .0) (c .before .before .before .before .before .before .before .before .before .before .before .before .before .before .before .before .before .before .before .before .before .before .before .before .before .before .before .before .before .before .pre .1) (let k = c .before .before .before .before .before .before .before .before .before .before .before .before .before .before .before .before .before .before .before .before .before .before .before .before .before .before .struct-known3 .given in omega arith) (let k = c .before .before .before .before .before .before .before .before .before .before .before .before .before .before .before .before .before .before .before .before .before .before .before .before .before .first-byte in omega arith) (let k = c .before .before .before .before .before .before .before .before .before .before .before .before .before .before .before .before .before .before .before .before .before .before .before .before .fourth-byte in omega arith) (c .before .before .before .before .before .before .before .before .before .before .before .before .before .before .before .before .before .before .before .before .before .before .before .before .before .first-byte .ensures) (c .before .before .before .before .before .before .before .before .before .before .before .before .before .before .before .before .before .before .before .before .before .before .before .before .fourth-byte .ensures)
-    (c .before .before .before .before .before .before .before .before .before .before .before .before .before .before .before .before .before .before .before .before .before .before .write-be .ensures) (c .before .before .before .before .before .before .before .before .before .before .before .before .before .before .before .before .before .before .write-be2 .ensures) (c .before .before .before .before .before .before .before .before .before .before .before .before .before .before .write-be3 .ensures) (c .before .before .before .before .before .before .before .before .before .before .write-be4 .ensures) (c .before .before .before .before .before .before .write-be5 .ensures) (c .before .before .write-be6 .ensures)
+    (c .before .before .before .before .before .before .before .before .before .before .before .before .before .before .before .before .before .before .before .before .before .before .write-be .ensures) (c .before .before .before .before .before .before .before .before .before .before .before .before .before .before .before .before .before .before .write-be2 .ensures) (c .before .before .before .before .before .before .before .before .before .before .before .before .before .before .write-be3 .ensures) (c .before .before .before .before .before .before .before .before .before .before .put-identifier .ensures) (c .before .before .before .before .before .before .put-identifier2 .ensures) (c .before .before .put-identifier3 .ensures)
 
 pub put-header-spec : {M : Type 1} → statement M
 put-header-spec =
@@ -75,8 +75,8 @@ put-header-spec =
     write-be-requires
     write-be-requires-2
     write-be-requires-3
-    write-be-requires-4
-    write-be-requires-5
-    write-be-requires-6
+    put-identifier-requires
+    put-identifier-requires-2
+    put-identifier-requires-3
     same-length
     returns)

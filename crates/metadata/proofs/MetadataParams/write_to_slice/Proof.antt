@@ -1,7 +1,7 @@
 -- `metadata::MetadataParams::write_to_slice` meets its contract: a refusal that changes nothing, or header, data and checksum.
 -- Assumes nothing.
 use mathlib.Core.Path.{sym, ap, _∙_}
-use Rattle.header.specs.Pdu.{writeAnswer}
+use Rattle.header.specs.Answers.{lengthAnswer}
 use Rattle.header.proofs.Pdus.{write-refused, begun-passed, data-goes, write-done}
 use Rattle.metadata.specs.Writing.{metadataData, filled, ownTests, writingMetadata, metadataMemory}
 use Rattle.metadata.proofs.Data.{length-is}
@@ -14,6 +14,9 @@ with-direction-requires c κs = search needs
 
 data-length-requires : tie.Need-data-length-requires
 data-length-requires c κs = search needs
+
+with-data-requires : tie.Need-with-data-requires
+with-data-requires c κs = search needs
 
 begin-write-requires : tie.Need-begin-write-requires
 begin-write-requires c κs = search needs
@@ -28,7 +31,7 @@ header-len-requires : tie.Need-header-len-requires
 header-len-requires c κs = search needs
 
 put-data-requires : tie.Need-put-data-requires
-put-data-requires c κs = (data-goes _ _ (c .before .before .before .before .before .before .before .before .before .before .with-direction .ensures) (ownTests (c .before .before .before .before .before .before .before .before .before .before .before .before .before .before .before .args .self) (c .before .before .before .before .before .before .before .before .before .before .before .before .before .before .before .args .source .now) (c .before .before .before .before .before .before .before .before .before .before .before .before .before .before .before .args .destination .now) (c .before .before .before .before .before .before .before .before .before .before .before .before .before .before .before .args .options .now)) _ _ (c .before .before .before .before .before .before .before .before .before .data-length .ensures) _ _ _ (ap writeAnswer (sym (c .before .before .before .begun2 .given .1)) ∙ c .before .before .before .before .before .before .before .begin-write .ensures .0) (c .before .before .before .before .before .before .before .begin-write .ensures .1) (metadataData (c .before .before .before .before .before .before .before .before .before .before .before .before .before .before .before .args .self) (c .before .before .before .before .before .before .before .before .before .before .before .before .before .before .before .args .source .now) (c .before .before .before .before .before .before .before .before .before .before .before .before .before .before .before .args .destination .now) (c .before .before .before .before .before .before .before .before .before .before .before .before .before .before .before .args .options .now)) (length-is (c .before .before .before .before .before .before .before .before .before .before .before .before .before .before .before .args .self) (c .before .before .before .before .before .before .before .before .before .before .before .before .before .before .before .args .source .now) (c .before .before .before .before .before .before .before .before .before .before .before .before .before .before .before .args .destination .now) (c .before .before .before .before .before .before .before .before .before .before .before .before .before .before .before .args .options .now)) _ (c .before .header-len .ensures .0), begun-passed _ _ (c .before .before .before .before .before .before .before .before .before .before .with-direction .ensures) (ownTests (c .before .before .before .before .before .before .before .before .before .before .before .before .before .before .before .args .self) (c .before .before .before .before .before .before .before .before .before .before .before .before .before .before .before .args .source .now) (c .before .before .before .before .before .before .before .before .before .before .before .before .before .before .before .args .destination .now) (c .before .before .before .before .before .before .before .before .before .before .before .before .before .before .before .args .options .now)) _ _ (c .before .before .before .before .before .before .before .before .before .data-length .ensures) _ _ _ (ap writeAnswer (sym (c .before .before .before .begun2 .given .1)) ∙ c .before .before .before .before .before .before .before .begin-write .ensures .0) (c .before .before .before .before .before .before .before .begin-write .ensures .1))
+put-data-requires c κs = (data-goes _ _ (c .before .before .before .before .before .before .before .before .before .before .before .with-direction .ensures) (ownTests (c .before .before .before .before .before .before .before .before .before .before .before .before .before .before .before .before .args .self) (c .before .before .before .before .before .before .before .before .before .before .before .before .before .before .before .before .args .source .now) (c .before .before .before .before .before .before .before .before .before .before .before .before .before .before .before .before .args .destination .now) (c .before .before .before .before .before .before .before .before .before .before .before .before .before .before .before .before .args .options .now)) _ _ (c .before .before .before .before .before .before .before .before .before .before .data-length .ensures) _ (c .before .before .before .before .before .before .before .before .before .with-data .ensures) _ _ _ (ap lengthAnswer (sym (c .before .before .before .begun2 .given .1)) ∙ c .before .before .before .before .before .before .before .begin-write .ensures .0) (c .before .before .before .before .before .before .before .begin-write .ensures .1) (metadataData (c .before .before .before .before .before .before .before .before .before .before .before .before .before .before .before .before .args .self) (c .before .before .before .before .before .before .before .before .before .before .before .before .before .before .before .before .args .source .now) (c .before .before .before .before .before .before .before .before .before .before .before .before .before .before .before .before .args .destination .now) (c .before .before .before .before .before .before .before .before .before .before .before .before .before .before .before .before .args .options .now)) (length-is (c .before .before .before .before .before .before .before .before .before .before .before .before .before .before .before .before .args .self) (c .before .before .before .before .before .before .before .before .before .before .before .before .before .before .before .before .args .source .now) (c .before .before .before .before .before .before .before .before .before .before .before .before .before .before .before .before .args .destination .now) (c .before .before .before .before .before .before .before .before .before .before .before .before .before .before .before .before .args .options .now)) _ (c .before .header-len .ensures .0), begun-passed _ _ (c .before .before .before .before .before .before .before .before .before .before .before .with-direction .ensures) (ownTests (c .before .before .before .before .before .before .before .before .before .before .before .before .before .before .before .before .args .self) (c .before .before .before .before .before .before .before .before .before .before .before .before .before .before .before .before .args .source .now) (c .before .before .before .before .before .before .before .before .before .before .before .before .before .before .before .before .args .destination .now) (c .before .before .before .before .before .before .before .before .before .before .before .before .before .before .before .before .args .options .now)) _ _ (c .before .before .before .before .before .before .before .before .before .before .data-length .ensures) _ (c .before .before .before .before .before .before .before .before .before .with-data .ensures) _ _ (ap lengthAnswer (sym (c .before .before .before .begun2 .given .1)) ∙ c .before .before .before .before .before .before .before .begin-write .ensures .0))
 
 seal-requires : tie.Need-seal-requires
 seal-requires c κs = search needs
@@ -38,14 +41,14 @@ same-length c = search needs
 
 returns : tie.Need-returns
 unfolding writingMetadata metadataMemory filled
-returns c = write-refused _ _ (c .before .before .before .before .before .before .before .before .with-direction .ensures) (ownTests (c .before .before .before .before .before .before .before .before .before .before .before .before .before .args .self) (c .before .before .before .before .before .before .before .before .before .before .before .before .before .args .source .now) (c .before .before .before .before .before .before .before .before .before .before .before .before .before .args .destination .now) (c .before .before .before .before .before .before .before .before .before .before .before .before .before .args .options .now)) _ _ (c .before .before .before .before .before .before .before .data-length .ensures) _ (metadataData (c .before .before .before .before .before .before .before .before .before .before .before .before .before .args .self) (c .before .before .before .before .before .before .before .before .before .before .before .before .before .args .source .now) (c .before .before .before .before .before .before .before .before .before .before .before .before .before .args .destination .now) (c .before .before .before .before .before .before .before .before .before .before .before .before .before .args .options .now)) _ _ (ap writeAnswer (sym (c .before .begun .given .1)) ∙ c .before .before .before .before .before .begin-write .ensures .0) (c .before .before .before .before .before .begin-write .ensures .1)
+returns c = write-refused _ _ (c .before .before .before .before .before .before .before .before .before .with-direction .ensures) (ownTests (c .before .before .before .before .before .before .before .before .before .before .before .before .before .before .args .self) (c .before .before .before .before .before .before .before .before .before .before .before .before .before .before .args .source .now) (c .before .before .before .before .before .before .before .before .before .before .before .before .before .before .args .destination .now) (c .before .before .before .before .before .before .before .before .before .before .before .before .before .before .args .options .now)) _ _ (c .before .before .before .before .before .before .before .before .data-length .ensures) _ (c .before .before .before .before .before .before .before .with-data .ensures) _ (metadataData (c .before .before .before .before .before .before .before .before .before .before .before .before .before .before .args .self) (c .before .before .before .before .before .before .before .before .before .before .before .before .before .before .args .source .now) (c .before .before .before .before .before .before .before .before .before .before .before .before .before .before .args .destination .now) (c .before .before .before .before .before .before .before .before .before .before .before .before .before .before .args .options .now)) _ _ (ap lengthAnswer (sym (c .before .begun .given .1)) ∙ c .before .before .before .before .before .begin-write .ensures .0) (c .before .before .before .before .before .begin-write .ensures .1)
 
 same-length-2 : tie.Need-same-length-2
 same-length-2 c = search needs
 
 returns-2 : tie.Need-returns-2
 unfolding writingMetadata metadataMemory filled
-returns-2 c = write-done _ _ (c .before .before .before .before .before .before .before .before .before .before .before .before .before .before .before .before .before .with-direction .ensures) (ownTests (c .before .before .before .before .before .before .before .before .before .before .before .before .before .before .before .before .before .before .before .before .before .before .args .self) (c .before .before .before .before .before .before .before .before .before .before .before .before .before .before .before .before .before .before .before .before .before .before .args .source .now) (c .before .before .before .before .before .before .before .before .before .before .before .before .before .before .before .before .before .before .before .before .before .before .args .destination .now) (c .before .before .before .before .before .before .before .before .before .before .before .before .before .before .before .before .before .before .before .before .before .before .args .options .now)) _ _ (c .before .before .before .before .before .before .before .before .before .before .before .before .before .before .before .before .data-length .ensures) _ _ _ (ap writeAnswer (sym (c .before .before .before .before .before .before .before .before .before .before .begun2 .given .1)) ∙ c .before .before .before .before .before .before .before .before .before .before .before .before .before .before .begin-write .ensures .0) (c .before .before .before .before .before .before .before .before .before .before .before .before .before .before .begin-write .ensures .1) (metadataData (c .before .before .before .before .before .before .before .before .before .before .before .before .before .before .before .before .before .before .before .before .before .before .args .self) (c .before .before .before .before .before .before .before .before .before .before .before .before .before .before .before .before .before .before .before .before .before .before .args .source .now) (c .before .before .before .before .before .before .before .before .before .before .before .before .before .before .before .before .before .before .before .before .before .before .args .destination .now) (c .before .before .before .before .before .before .before .before .before .before .before .before .before .before .before .before .before .before .before .before .before .before .args .options .now)) (length-is (c .before .before .before .before .before .before .before .before .before .before .before .before .before .before .before .before .before .before .before .before .before .before .args .self) (c .before .before .before .before .before .before .before .before .before .before .before .before .before .before .before .before .before .before .before .before .before .before .args .source .now) (c .before .before .before .before .before .before .before .before .before .before .before .before .before .before .before .before .before .before .before .before .before .before .args .destination .now) (c .before .before .before .before .before .before .before .before .before .before .before .before .before .before .before .before .before .before .before .before .before .before .args .options .now)) _ (c .before .before .before .before .before .before .before .before .header-len .ensures .0) _ _ (c .before .before .before .before .before .before .put-data .ensures) (c .before .before .seal .ensures)
+returns-2 c = write-done _ _ (c .before .before .before .before .before .before .before .before .before .before .before .before .before .before .before .before .before .before .with-direction .ensures) (ownTests (c .before .before .before .before .before .before .before .before .before .before .before .before .before .before .before .before .before .before .before .before .before .before .before .args .self) (c .before .before .before .before .before .before .before .before .before .before .before .before .before .before .before .before .before .before .before .before .before .before .before .args .source .now) (c .before .before .before .before .before .before .before .before .before .before .before .before .before .before .before .before .before .before .before .before .before .before .before .args .destination .now) (c .before .before .before .before .before .before .before .before .before .before .before .before .before .before .before .before .before .before .before .before .before .before .before .args .options .now)) _ _ (c .before .before .before .before .before .before .before .before .before .before .before .before .before .before .before .before .before .data-length .ensures) _ (c .before .before .before .before .before .before .before .before .before .before .before .before .before .before .before .before .with-data .ensures) _ _ _ (ap lengthAnswer (sym (c .before .before .before .before .before .before .before .before .before .before .begun2 .given .1)) ∙ c .before .before .before .before .before .before .before .before .before .before .before .before .before .before .begin-write .ensures .0) (c .before .before .before .before .before .before .before .before .before .before .before .before .before .before .begin-write .ensures .1) (metadataData (c .before .before .before .before .before .before .before .before .before .before .before .before .before .before .before .before .before .before .before .before .before .before .before .args .self) (c .before .before .before .before .before .before .before .before .before .before .before .before .before .before .before .before .before .before .before .before .before .before .before .args .source .now) (c .before .before .before .before .before .before .before .before .before .before .before .before .before .before .before .before .before .before .before .before .before .before .before .args .destination .now) (c .before .before .before .before .before .before .before .before .before .before .before .before .before .before .before .before .before .before .before .before .before .before .before .args .options .now)) (length-is (c .before .before .before .before .before .before .before .before .before .before .before .before .before .before .before .before .before .before .before .before .before .before .before .args .self) (c .before .before .before .before .before .before .before .before .before .before .before .before .before .before .before .before .before .before .before .before .before .before .before .args .source .now) (c .before .before .before .before .before .before .before .before .before .before .before .before .before .before .before .before .before .before .before .before .before .before .before .args .destination .now) (c .before .before .before .before .before .before .before .before .before .before .before .before .before .before .before .before .before .before .before .before .before .before .before .args .options .now)) _ (c .before .before .before .before .before .before .before .before .header-len .ensures .0) _ _ (c .before .before .before .before .before .before .put-data .ensures) (c .before .before .seal .ensures)
 
 pub write-to-slice-spec : {M : Type 1} → statement M
-write-to-slice-spec = tie.close (tie.spec with-direction-requires data-length-requires begin-write-requires enum-known-begun enum-known-begun-2 header-len-requires put-data-requires seal-requires same-length returns same-length-2 returns-2)
+write-to-slice-spec = tie.close (tie.spec with-direction-requires data-length-requires with-data-requires begin-write-requires enum-known-begun enum-known-begun-2 header-len-requires put-data-requires seal-requires same-length returns same-length-2 returns-2)

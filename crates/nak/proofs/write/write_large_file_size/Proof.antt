@@ -2,7 +2,7 @@
 -- Assumes nothing.
 use mathlib.Core.Path.{sym, ap, _∙_}
 use Rattle.header.specs.declared.flags.LargeFileFlag.the-variants.{Large}
-use Rattle.header.specs.Pdu.{writeAnswer}
+use Rattle.header.specs.Answers.{lengthAnswer}
 use Rattle.nak.proofs.Writing.{not-written, scope-goes, numbers-go, nak-written}
 use borrow.Author.Needs.{needs}
 use Rattle.nak.proofs.write.write_large_file_size.Statement.{statement}
@@ -14,6 +14,9 @@ data-length-requires c κs = search needs
 towards-sender-requires : tie.Need-towards-sender-requires
 towards-sender-requires c κs = search needs
 
+with-data-requires : tie.Need-with-data-requires
+with-data-requires c κs = search needs
+
 begin-write-requires : tie.Need-begin-write-requires
 begin-write-requires c κs = search needs
 
@@ -24,13 +27,13 @@ enum-known-begun-2 : tie.Need-enum-known-begun-2
 enum-known-begun-2 c = search needs
 
 put-scope-requires : tie.Need-put-scope-requires
-put-scope-requires c κs = scope-goes Large (c .before .before .before .before .before .before .before .before .before .before .before .before .before .args .header) (c .before .before .before .before .before .before .before .before .before .before .before .before .before .args .start) (c .before .before .before .before .before .before .before .before .before .before .before .before .before .args .end) (c .before .before .before .before .before .before .before .before .before .before .before .before .before .args .numbers .now) (c .before .before .before .before .before .before .before .before .before .before .before .before .before .args .buf .now) _ (c .before .before .before .before .before .before .before .before .before .towards-sender .ensures) _ (c .before .before .before .before .before .before .before .before .before .before .data-length .ensures) _ _ (ap writeAnswer (sym (c .before .before .before .begun2 .given .1)) ∙ c .before .before .before .before .before .before .before .begin-write .ensures .0) (c .before .before .before .before .before .before .before .begin-write .ensures .1)
+put-scope-requires c κs = scope-goes Large (c .before .before .before .before .before .before .before .before .before .before .before .before .before .args .header) (c .before .before .before .before .before .before .before .before .before .before .before .before .before .args .start) (c .before .before .before .before .before .before .before .before .before .before .before .before .before .args .end) (c .before .before .before .before .before .before .before .before .before .before .before .before .before .args .numbers .now) (c .before .before .before .before .before .before .before .before .before .before .before .before .before .args .buf .now) _ (c .before .before .before .before .before .before .before .before .before .towards-sender .ensures) _ (c .before .before .before .before .before .before .before .before .before .before .data-length .ensures) _ (c .before .before .before .before .before .before .before .before .with-data .ensures) _ _ (ap lengthAnswer (sym (c .before .before .begun2 .given .1)) ∙ c .before .before .before .before .before .before .begin-write .ensures .0) (c .before .before .before .before .before .before .begin-write .ensures .1)
 
 area-start-requires : tie.Need-area-start-requires
 area-start-requires c κs = search needs
 
 put-large-requires : tie.Need-put-large-requires
-put-large-requires c κs = numbers-go Large (c .before .before .before .before .before .before .before .before .before .before .before .before .before .before .before .before .before .before .args .header) (c .before .before .before .before .before .before .before .before .before .before .before .before .before .before .before .before .before .before .args .start) (c .before .before .before .before .before .before .before .before .before .before .before .before .before .before .before .before .before .before .args .end) (c .before .before .before .before .before .before .before .before .before .before .before .before .before .before .before .before .before .before .args .numbers .now) (c .before .before .before .before .before .before .before .before .before .before .before .before .before .before .before .before .before .before .args .buf .now) _ (c .before .before .before .before .before .before .before .before .before .before .before .before .before .before .towards-sender .ensures) _ (c .before .before .before .before .before .before .before .before .before .before .before .before .before .before .before .data-length .ensures) _ _ (ap writeAnswer (sym (c .before .before .before .before .before .before .before .before .begun2 .given .1)) ∙ c .before .before .before .before .before .before .before .before .before .before .before .before .begin-write .ensures .0) (c .before .before .before .before .before .before .before .before .before .before .before .before .begin-write .ensures .1) _ (c .before .before .before .before .put-scope .ensures) _ (c .area-start .ensures .0) .0
+put-large-requires c κs = numbers-go Large (c .before .before .before .before .before .before .before .before .before .before .before .before .before .before .before .before .before .before .args .header) (c .before .before .before .before .before .before .before .before .before .before .before .before .before .before .before .before .before .before .args .start) (c .before .before .before .before .before .before .before .before .before .before .before .before .before .before .before .before .before .before .args .end) (c .before .before .before .before .before .before .before .before .before .before .before .before .before .before .before .before .before .before .args .numbers .now) (c .before .before .before .before .before .before .before .before .before .before .before .before .before .before .before .before .before .before .args .buf .now) _ (c .before .before .before .before .before .before .before .before .before .before .before .before .before .before .towards-sender .ensures) _ (c .before .before .before .before .before .before .before .before .before .before .before .before .before .before .before .data-length .ensures) _ (c .before .before .before .before .before .before .before .before .before .before .before .before .before .with-data .ensures) _ _ (ap lengthAnswer (sym (c .before .before .before .before .before .before .before .begun2 .given .1)) ∙ c .before .before .before .before .before .before .before .before .before .before .before .begin-write .ensures .0) (c .before .before .before .before .before .before .before .before .before .before .before .begin-write .ensures .1) _ (c .before .before .before .before .put-scope .ensures) _ (c .area-start .ensures .0) .0
 
 seal-requires : tie.Need-seal-requires
 seal-requires c κs = search needs
@@ -39,13 +42,13 @@ same-length : tie.Need-same-length
 same-length c = search needs
 
 returns : tie.Need-returns
-returns c = not-written Large _ _ _ (c .before .before .before .before .before .before .before .before .before .before .before .args .numbers .now) _ _ (c .before .before .before .before .before .before .before .towards-sender .ensures) _ (c .before .before .before .before .before .before .before .before .data-length .ensures) _ _ (ap writeAnswer (sym (c .before .begun .given .1)) ∙ c .before .before .before .before .before .begin-write .ensures .0) (c .before .before .before .before .before .begin-write .ensures .1)
+returns c = not-written Large _ _ _ (c .before .before .before .before .before .before .before .before .before .before .before .before .args .numbers .now) _ _ (c .before .before .before .before .before .before .before .before .towards-sender .ensures) _ (c .before .before .before .before .before .before .before .before .before .data-length .ensures) _ (c .before .before .before .before .before .before .before .with-data .ensures) _ _ (ap lengthAnswer (sym (c .before .begun .given .1)) ∙ c .before .before .before .before .before .begin-write .ensures .0) (c .before .before .before .before .before .begin-write .ensures .1)
 
 same-length-2 : tie.Need-same-length-2
 same-length-2 c = search needs
 
 returns-2 : tie.Need-returns-2
-returns-2 c = nak-written Large _ _ _ (c .before .before .before .before .before .before .before .before .before .before .before .before .before .before .before .before .before .before .before .before .before .before .before .before .before .args .numbers .now) _ _ (c .before .before .before .before .before .before .before .before .before .before .before .before .before .before .before .before .before .before .before .before .before .towards-sender .ensures) _ (c .before .before .before .before .before .before .before .before .before .before .before .before .before .before .before .before .before .before .before .before .before .before .data-length .ensures) _ _ (ap writeAnswer (sym (c .before .before .before .before .before .before .before .before .before .before .before .before .before .before .before .begun2 .given .1)) ∙ c .before .before .before .before .before .before .before .before .before .before .before .before .before .before .before .before .before .before .before .begin-write .ensures .0) (c .before .before .before .before .before .before .before .before .before .before .before .before .before .before .before .before .before .before .before .begin-write .ensures .1) _ (c .before .before .before .before .before .before .before .before .before .before .before .put-scope .ensures) _ _ _ (c .before .before .before .before .before .before .before .area-start .ensures .0) (c .before .before .before .before .before .before .put-large .ensures .0) (c .before .before .seal .ensures)
+returns-2 c = nak-written Large _ _ _ (c .before .before .before .before .before .before .before .before .before .before .before .before .before .before .before .before .before .before .before .before .before .before .before .before .before .args .numbers .now) _ _ (c .before .before .before .before .before .before .before .before .before .before .before .before .before .before .before .before .before .before .before .before .before .towards-sender .ensures) _ (c .before .before .before .before .before .before .before .before .before .before .before .before .before .before .before .before .before .before .before .before .before .before .data-length .ensures) _ (c .before .before .before .before .before .before .before .before .before .before .before .before .before .before .before .before .before .before .before .before .with-data .ensures) _ _ (ap lengthAnswer (sym (c .before .before .before .before .before .before .before .before .before .before .before .before .before .before .begun2 .given .1)) ∙ c .before .before .before .before .before .before .before .before .before .before .before .before .before .before .before .before .before .before .begin-write .ensures .0) (c .before .before .before .before .before .before .before .before .before .before .before .before .before .before .before .before .before .before .begin-write .ensures .1) _ (c .before .before .before .before .before .before .before .before .before .before .before .put-scope .ensures) _ _ _ (c .before .before .before .before .before .before .before .area-start .ensures .0) (c .before .before .before .before .before .before .put-large .ensures .0) (c .before .before .seal .ensures)
 
 pub write-large-file-size-spec : {M : Type 1} → statement M
 write-large-file-size-spec =
@@ -53,6 +56,7 @@ write-large-file-size-spec =
     (tie.spec
     data-length-requires
     towards-sender-requires
+    with-data-requires
     begin-write-requires
     enum-known-begun
     enum-known-begun-2

@@ -21,14 +21,14 @@ mul-if2 c = search needs
 returns-2 : tie.Need-returns-2
 returns-2 c = next-end _ _ _ _ (c .before .before .size-width .ensures .0) (omega arith)
 
-read-size-requires : tie.Need-read-size-requires
-read-size-requires c κs = search needs
+offset-at-requires : tie.Need-offset-at-requires
+offset-at-requires c κs = omega (arith, c .before .before .size-width .ensures .0)
 
-add-read-size : tie.Need-add-read-size
-add-read-size c = search needs
+add-offset-at : tie.Need-add-offset-at
+add-offset-at c = search needs
 
-read-size-requires-2 : tie.Need-read-size-requires-2
-read-size-requires-2 c κs = search needs
+offset-at-requires-2 : tie.Need-offset-at-requires-2
+offset-at-requires-2 c κs = omega (arith, c .before .before .before .size-width .ensures .0)
 
 mul-t8 : tie.Need-mul-t8
 mul-t8 c = search needs
@@ -37,7 +37,7 @@ add-t9 : tie.Need-add-t9
 add-t9 c = search needs
 
 returns-3 : tie.Need-returns-3
-returns-3 c = next-pair _ _ _ _ _ _ (c .before .before .before .before .size-width .ensures .0) (omega arith) (c .before .read-size .ensures) (c .read-size2 .ensures)
+returns-3 c = next-pair _ _ _ _ _ _ (c .before .before .before .before .size-width .ensures .0) (omega arith) (c .before .offset-at .ensures) (c .offset-at2 .ensures)
 
 pub next-spec : {M : Type 1} → statement M
 next-spec =
@@ -48,9 +48,9 @@ next-spec =
     sub-if2
     mul-if2
     returns-2
-    read-size-requires
-    add-read-size
-    read-size-requires-2
+    offset-at-requires
+    add-offset-at
+    offset-at-requires-2
     mul-t8
     add-t9
     returns-3)

@@ -1,7 +1,7 @@
 -- `nak::reserve::ReservedNak::finish` meets its contract: the NAK around the requests, or no byte changed.
 -- Assumes nothing.
 use mathlib.Core.Path.{sym, ap, _∙_}
-use Rattle.header.specs.Pdu.{writeAnswer}
+use Rattle.header.specs.Answers.{lengthAnswer}
 use Rattle.nak.proofs.Reserving.{not-finished, finish-goes, finished}
 use borrow.Author.Needs.{needs}
 use Rattle.nak.proofs.reserve.ReservedNak.finish.Statement.{statement}
@@ -13,6 +13,9 @@ finished-length-requires c κs = search needs
 towards-sender-requires : tie.Need-towards-sender-requires
 towards-sender-requires c κs = search needs
 
+with-data-requires : tie.Need-with-data-requires
+with-data-requires c κs = search needs
+
 begin-write-requires : tie.Need-begin-write-requires
 begin-write-requires c κs = search needs
 
@@ -23,7 +26,7 @@ enum-known-begun-2 : tie.Need-enum-known-begun-2
 enum-known-begun-2 c = search needs
 
 put-scope-requires : tie.Need-put-scope-requires
-put-scope-requires c κs = finish-goes (c .before .before .before .before .before .before .before .before .before .before .before .before .before .args .self) (c .before .before .before .before .before .before .before .before .before .before .before .before .before .args .start) (c .before .before .before .before .before .before .before .before .before .before .before .before .before .args .end) (c .before .before .before .before .before .before .before .before .before .before .before .before .before .args .buf .now) _ (c .before .before .before .before .before .before .before .before .before .towards-sender .ensures) _ (c .before .before .before .before .before .before .before .before .before .before .finished-length .ensures) _ _ (ap writeAnswer (sym (c .before .before .before .begun2 .given .1)) ∙ c .before .before .before .before .before .before .before .begin-write .ensures .0) (c .before .before .before .before .before .before .before .begin-write .ensures .1)
+put-scope-requires c κs = finish-goes (c .before .before .before .before .before .before .before .before .before .before .before .before .before .args .self) (c .before .before .before .before .before .before .before .before .before .before .before .before .before .args .start) (c .before .before .before .before .before .before .before .before .before .before .before .before .before .args .end) (c .before .before .before .before .before .before .before .before .before .before .before .before .before .args .buf .now) _ (c .before .before .before .before .before .before .before .before .before .towards-sender .ensures) _ (c .before .before .before .before .before .before .before .before .before .before .finished-length .ensures) _ (c .before .before .before .before .before .before .before .before .with-data .ensures) _ _ (ap lengthAnswer (sym (c .before .before .begun2 .given .1)) ∙ c .before .before .before .before .before .before .begin-write .ensures .0) (c .before .before .before .before .before .before .begin-write .ensures .1)
 
 seal-requires : tie.Need-seal-requires
 seal-requires c κs = search needs
@@ -32,13 +35,13 @@ same-length : tie.Need-same-length
 same-length c = search needs
 
 returns : tie.Need-returns
-returns c = not-finished _ _ _ _ _ (c .before .before .before .before .before .before .before .towards-sender .ensures) _ (c .before .before .before .before .before .before .before .before .finished-length .ensures) _ _ (ap writeAnswer (sym (c .before .begun .given .1)) ∙ c .before .before .before .before .before .begin-write .ensures .0) (c .before .before .before .before .before .begin-write .ensures .1)
+returns c = not-finished _ _ _ _ _ (c .before .before .before .before .before .before .before .before .towards-sender .ensures) _ (c .before .before .before .before .before .before .before .before .before .finished-length .ensures) _ (c .before .before .before .before .before .before .before .with-data .ensures) _ _ (ap lengthAnswer (sym (c .before .begun .given .1)) ∙ c .before .before .before .before .before .begin-write .ensures .0) (c .before .before .before .before .before .begin-write .ensures .1)
 
 same-length-2 : tie.Need-same-length-2
 same-length-2 c = search needs
 
 returns-2 : tie.Need-returns-2
-returns-2 c = finished _ _ _ _ _ (c .before .before .before .before .before .before .before .before .before .before .before .before .before .before .before .before .towards-sender .ensures) _ (c .before .before .before .before .before .before .before .before .before .before .before .before .before .before .before .before .before .finished-length .ensures) _ _ (ap writeAnswer (sym (c .before .before .before .before .before .before .before .before .before .before .begun2 .given .1)) ∙ c .before .before .before .before .before .before .before .before .before .before .before .before .before .before .begin-write .ensures .0) (c .before .before .before .before .before .before .before .before .before .before .before .before .before .before .begin-write .ensures .1) _ _ (c .before .before .before .before .before .before .put-scope .ensures) (c .before .before .seal .ensures)
+returns-2 c = finished _ _ _ _ _ (c .before .before .before .before .before .before .before .before .before .before .before .before .before .before .before .before .towards-sender .ensures) _ (c .before .before .before .before .before .before .before .before .before .before .before .before .before .before .before .before .before .finished-length .ensures) _ (c .before .before .before .before .before .before .before .before .before .before .before .before .before .before .before .with-data .ensures) _ _ (ap lengthAnswer (sym (c .before .before .before .before .before .before .before .before .before .begun2 .given .1)) ∙ c .before .before .before .before .before .before .before .before .before .before .before .before .before .begin-write .ensures .0) (c .before .before .before .before .before .before .before .before .before .before .before .before .before .begin-write .ensures .1) _ _ (c .before .before .before .before .before .before .put-scope .ensures) (c .before .before .seal .ensures)
 
 pub finish-spec : {M : Type 1} → statement M
 finish-spec =
@@ -46,6 +49,7 @@ finish-spec =
     (tie.spec
     finished-length-requires
     towards-sender-requires
+    with-data-requires
     begin-write-requires
     enum-known-begun
     enum-known-begun-2

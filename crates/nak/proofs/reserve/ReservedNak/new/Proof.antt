@@ -1,7 +1,7 @@
 -- `nak::reserve::ReservedNak::new` meets its contract: the judgement's refusal, or the place of the requests.
 -- Assumes nothing.
 use mathlib.Core.Path.{sym, ap, _∙_}
-use Rattle.header.specs.Pdu.{writeAnswer}
+use Rattle.header.specs.Answers.{lengthAnswer}
 use Rattle.nak.proofs.Reserving.{not-reserved, reserved-is}
 use borrow.Author.Needs.{needs}
 use Rattle.nak.proofs.reserve.ReservedNak.new.Statement.{statement}
@@ -13,23 +13,26 @@ pairs-length-requires c κs = search needs
 towards-sender-requires : tie.Need-towards-sender-requires
 towards-sender-requires c κs = search needs
 
+with-data-requires : tie.Need-with-data-requires
+with-data-requires c κs = search needs
+
 judge-write-requires : tie.Need-judge-write-requires
 judge-write-requires c κs = search needs
 
 enum-known-judged : tie.Need-enum-known-judged
 enum-known-judged c = search needs
 
-enum-known-judged-2 : tie.Need-enum-known-judged-2
-enum-known-judged-2 c = search needs
+enum-told : tie.Need-enum-told
+enum-told c = search needs
 
 place-requires : tie.Need-place-requires
 place-requires c κs = search needs
 
 returns : tie.Need-returns
-returns c = not-reserved _ _ _ _ (c .before .before .before .before .towards-sender .ensures) _ (c .before .before .before .before .before .pairs-length .ensures) _ (ap writeAnswer (sym (c .before .judged .given .1)) ∙ c .before .before .before .judge-write .ensures)
+returns c = not-reserved _ _ _ _ (c .before .before .before .before .before .towards-sender .ensures) _ (c .before .before .before .before .before .before .pairs-length .ensures) _ (c .before .before .before .before .with-data .ensures) _ (ap lengthAnswer (sym (c .before .judged .given .1)) ∙ c .before .before .before .judge-write .ensures)
 
 returns-2 : tie.Need-returns-2
-returns-2 c = reserved-is _ _ _ _ (c .before .before .before .before .before .towards-sender .ensures) _ (c .before .before .before .before .before .before .pairs-length .ensures) _ _ (ap writeAnswer (sym (c .before .before .judged2 .given .1)) ∙ c .before .before .before .before .judge-write .ensures) (c .place .ensures)
+returns-2 c = reserved-is _ _ _ _ (c .before .before .before .before .before .towards-sender .ensures) _ (c .before .before .before .before .before .before .pairs-length .ensures) _ (c .before .before .before .before .with-data .ensures) _ _ (ap lengthAnswer (sym (c .before .enum-told .given .1)) ∙ c .before .before .before .judge-write .ensures) (c .place .ensures)
 
 pub new-spec : {M : Type 1} → statement M
 new-spec =
@@ -37,9 +40,10 @@ new-spec =
     (tie.spec
     pairs-length-requires
     towards-sender-requires
+    with-data-requires
     judge-write-requires
     enum-known-judged
-    enum-known-judged-2
+    enum-told
     place-requires
     returns
     returns-2)
