@@ -2,7 +2,7 @@
    and makes for this machine.
 
    Every function gives one proved answer to every value of its parameters. Nothing allocates or panics, and nothing is read
-   or written outside the memory that is lent.
+   or written outside the memory that is lent. docs/RULES.md has the bytes of each PDU and, for each refusal, what to do about it.
 
    Memory. A pointer is not null, even with a length of 0, and points at as many elements as are named. Memory that a call
    writes, all that is not const, overlaps no other memory of that call; memory that it only reads may overlap. A refused
