@@ -5,6 +5,8 @@
 # own.expected, port and Rust agree on document 01's cases, on the lines of silent.txt and on the
 # replay list, the comparer counts each wrong answer that is put in on the way, and plans of NAKs are
 # checked and made as document 02 says.
+# replay list, the comparer counts each wrong answer that is put in on the way, and the order of
+# refusals is that of docs/RULES.md.
 # The last line is 'N passed, M failed'; ends with 1 if anything failed.
 set -eu
 . "$(dirname "$0")/expect.sh"
@@ -157,6 +159,20 @@ sed '0,/ok not accepted/s//ok accepted/' "$work/answers" > "$work/changed"
 "$here/plans.py" judge "$work/asked" "$work/changed" | tail -n 1 > "$work/seen" || true
 echo "120237 checked, 1 differ" > "$work/expected"
 expect "plans.py with a wrong answer" "$work/expected" "$work/seen"
+# page NAME EXPECTED PAGE: whether the order of refusals on that page for users is the port's
+page() {
+    "$here/rules.py" "$work/asked" "$work/answers" "$3" > "$work/said" && echo as the port > "$work/seen" || echo otherwise > "$work/seen"
+    echo "$2" > "$work/expected"
+    expect "$1" "$work/expected" "$work/seen"
+}
+
+"$here/faults.py" 1500 1 > "$work/asked"
+"$bin/port" < "$work/asked" > "$work/answers"
+page "docs/RULES.md" "as the port" "$here/../../docs/RULES.md"
+sed 's/12, 9, 10, 11/9, 12, 10, 11/' "$here/../../docs/RULES.md" > "$work/page"
+page "docs/RULES.md with another order" "otherwise" "$work/page"
+sed 's/needs h + 6 + w/needs h + 5 + w/' "$here/../../docs/RULES.md" > "$work/page"
+page "docs/RULES.md with another length" "otherwise" "$work/page"
 
 # replayed NAME LIST EXPECTED: the last line of a replay
 replayed() {
