@@ -5,8 +5,8 @@ mod header;
 mod metadata;
 mod nak;
 mod owed;
-mod stream;
 mod plan;
+mod stream;
 mod timing;
 
 use nak::Sample;
@@ -33,11 +33,11 @@ fn main() {
         directive::eof(crc, true, &format!(" with a fault location{about}"));
         directive::ack(crc, about);
     }
-    differ::row_of(1000);
     for (crc, about) in [(false, ""), (true, ", CRC")] {
         metadata::metadata(crc, 0, about);
         metadata::metadata(crc, 8, &format!(" with 8 options{about}"));
     }
+    differ::row_of(1000);
     owed::row_of(20);
     for missing in [100, 1000, 8190] {
         plan::plans(missing);

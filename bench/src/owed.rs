@@ -15,10 +15,16 @@ pub fn row_of(pairs: u32) {
     let log: Vec<u8> = (0..10).flat_map(|i| entries(4000 * i, pairs)).collect();
     let wanted = by_rust(&log);
     let state = by_port(&log);
-    let ranges: Vec<u64> = wanted.iter().flat_map(|&(start, end)| [start, end]).collect();
+    let ranges: Vec<u64> = wanted
+        .iter()
+        .flat_map(|&(start, end)| [start, end])
+        .collect();
     assert_eq!(state[COUNT], wanted.len() as u64);
     assert_eq!(state[..ranges.len()], ranges);
-    let what = format!("run a log of 20 entries, {} ranges at the end", wanted.len());
+    let what = format!(
+        "run a log of 20 entries, {} ranges at the end",
+        wanted.len()
+    );
     row(
         &what,
         || by_rust(black_box(&log)).len(),
@@ -58,12 +64,19 @@ fn by_rust(log: &[u8]) -> Ranges {
         owed = match log[at] {
             1 => {
                 let nak = NakPduReader::new(contents).expect("it is a NAK");
-                let pairs: Ranges = nak.get_segment_requests_iterator().into_iter().flatten().collect();
+                let pairs: Ranges = nak
+                    .get_segment_requests_iterator()
+                    .into_iter()
+                    .flatten()
+                    .collect();
                 merged(&owed, &pairs, |first, second| first || second)
             }
             _ => {
-                let offset = |i: usize| u64::from_be_bytes(contents[i..i + 8].try_into().expect("8 bytes"));
-                merged(&owed, &[(offset(0), offset(8))], |first, second| first && !second)
+                let offset =
+                    |i: usize| u64::from_be_bytes(contents[i..i + 8].try_into().expect("8 bytes"));
+                merged(&owed, &[(offset(0), offset(8))], |first, second| {
+                    first && !second
+                })
             }
         };
         at = stop;

@@ -60,7 +60,11 @@ fn planned(received: &[u64], start: u64, end: u64) -> (Vec<u64>, Vec<u64>) {
     let groups = requests.chunks(2 * MOST);
     let last = groups.len();
     for (k, group) in groups.enumerate() {
-        let stop = if k + 1 == last { end } else { group[group.len() - 1] };
+        let stop = if k + 1 == last {
+            end
+        } else {
+            group[group.len() - 1]
+        };
         naks.extend([first, stop, group.len() as u64 / 2]);
         first = stop;
     }

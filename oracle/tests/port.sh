@@ -93,6 +93,13 @@ sed '0,/ sum [0-9]*/s// sum 4294967296/' "$work/answers" > "$work/changed"
 echo "188188 checked, 1 differ" > "$work/expected"
 expect "document02.py with a wrong answer" "$work/expected" "$work/seen"
 
+second metadata "100438 checked, 0 differ"
+# The first answer of a Metadata PDU with another file size.
+sed '0,/ size [0-9]*/s// size 1/' "$work/answers" > "$work/changed"
+"$here/document02.py" "$work/asked" "$work/changed" | tail -n 1 > "$work/seen" || true
+echo "100438 checked, 1 differ" > "$work/expected"
+expect "document02.py with a wrong Metadata PDU" "$work/expected" "$work/seen"
+
 # streamed NAME DRIVER COUNT: the receiver on 300 streams, each cut in four ways
 streamed() {
     PORT=$2 "$here/streams.sh" 1 300 | tail -n 1 > "$work/seen" || true
@@ -106,6 +113,7 @@ printf '#!/bin/sh\n"%s/port" | sed "2s/ 1 more/ 2 more/"\n' "$bin" > "$work/wron
 streamed "streams with a wrong answer" "$work/wrong" 1
 printf '#!/bin/sh\n"%s/port" | sed "7s/window [0-9]*/window 65536/"\n' "$bin" > "$work/wrong"
 streamed "streams with another window" "$work/wrong" 1
+
 # Two NAKs compared: by hand, and by chance against the document, byte by byte, written a second time.
 "$bin/port" < "$here/differ.txt" > "$work/seen"
 expect "differ.txt" "$here/differ.expected" "$work/seen"
@@ -119,12 +127,6 @@ sed '0,/,1,/s//,2,/' "$work/answers" > "$work/changed"
 "$here/differ.py" check "$work/asked" "$work/changed" | tail -n 1 > "$work/seen" || true
 echo "100000 checked, 1 differ" > "$work/expected"
 expect "differ.py with a wrong answer" "$work/expected" "$work/seen"
-second metadata "100438 checked, 0 differ"
-# The first answer of a Metadata PDU with another file size.
-sed '0,/ size [0-9]*/s// size 1/' "$work/answers" > "$work/changed"
-"$here/document02.py" "$work/asked" "$work/changed" | tail -n 1 > "$work/seen" || true
-echo "100438 checked, 1 differ" > "$work/expected"
-expect "document02.py with a wrong Metadata PDU" "$work/expected" "$work/seen"
 
 # A log run: by hand, logs that come to 256 ranges, and by chance against the document, byte by byte, written a second time.
 "$bin/port" < "$here/owed.txt" > "$work/seen"
@@ -159,6 +161,7 @@ sed '0,/ok not accepted/s//ok accepted/' "$work/answers" > "$work/changed"
 "$here/plans.py" judge "$work/asked" "$work/changed" | tail -n 1 > "$work/seen" || true
 echo "120237 checked, 1 differ" > "$work/expected"
 expect "plans.py with a wrong answer" "$work/expected" "$work/seen"
+
 # page NAME EXPECTED PAGE: whether the order of refusals on that page for users is the port's
 page() {
     "$here/rules.py" "$work/asked" "$work/answers" "$3" > "$work/said" && echo as the port > "$work/seen" || echo otherwise > "$work/seen"

@@ -318,7 +318,10 @@ pub fn metadata_write(header: &Header, metadata: &Metadata, buf: &mut [u8], answ
 
 /// whether each asks for metadata, ranges
 pub fn differ(first: &[u8], second: &[u8], ranges: &mut [u64], answer: &mut Answer) {
-    let (one, two) = ((first.as_ptr(), first.len()), (second.as_ptr(), second.len()));
+    let (one, two) = (
+        (first.as_ptr(), first.len()),
+        (second.as_ptr(), second.len()),
+    );
     let (at, len) = (ranges.as_mut_ptr(), ranges.len());
     unsafe { raw::cfdp_differ(one.0, one.1, two.0, two.1, at, len, answer) }
 }

@@ -52,7 +52,10 @@ fn told(stood: Stood, whole: &Stood) -> Result<String, String> {
         _ => show::refused(&stood.refused),
     };
     let at = stood.at;
-    Ok(format!("{text} at {at} ranges{}", words.collect::<String>()))
+    Ok(format!(
+        "{text} at {at} ranges{}",
+        words.collect::<String>()
+    ))
 }
 
 /// The bytes before a place, and then the rest.

@@ -55,20 +55,14 @@
 //!                                                    MetadataPduCreator::new and write_to_slice
 //! ```
 //!
-//! One command is for the port alone, and the oracle answers 'bad' and the reason:
-//!
-//! ```text
-//! receive BYTES BYTES ..                             a receiver in the fresh state is offered each
-//!                                                    fragment in calls until it is used up or
-//!                                                    refused, an empty one once
-//! ```
-//!
 //! NAME, NAME (source, destination) and OPTIONS are written as BYTES are. The port's driver lacks
 //! wsized: it answers 'bad' and the reason.
 //!
 //! Some are for the port alone, and the oracle answers them with 'bad' and the reason:
 //!
 //! ```text
+//! receive BYTES BYTES ..             a receiver in the fresh state (document 02, C-07) is offered each
+//!                                    fragment in calls until it is used up or refused, an empty one once
 //! differ BYTES BYTES LENT            two NAKs compared (document 02, C-03); LENT is how many numbers
 //!                                    are lent for the ranges, each of them 7 before the call
 //! owed BYTES                         a log of NAKs heard and ranges resent, run from the fresh state

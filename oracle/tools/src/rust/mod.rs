@@ -52,7 +52,9 @@ pub fn perform(command: Command) -> String {
         WriteMetadata(record, metadata, buf) => {
             lending(buf, |b| later::write_metadata(&record, &metadata, b))
         }
-        Receive(_) | Differ(..) | Owed(_) | CheckPlan(..) | Plan(..) => show::NOT_IN_RUST.to_string(),
+        Receive(_) | Differ(..) | Owed(_) | CheckPlan(..) | Plan(..) => {
+            show::NOT_IN_RUST.to_string()
+        }
     }
 }
 
