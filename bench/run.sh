@@ -8,3 +8,8 @@ oracle=$here/../oracle
 [ -n "${CFDP_LIB:-}" ] || "$here/../link/archive.sh" >&2
 (cd "$oracle" && cargo build --release --offline --target-dir "$oracle/target" -p bench) >&2
 "$oracle/target/release/bench"
+# The same for C's typed names, where there is a C compiler: further rows of the last table.
+if command -v cc >/dev/null; then
+    cc -std=c99 -O2 -I"$here/../include" "$here/typed.c" "${CFDP_LIB:-$here/../target/staticlib}/libcfdp.a" -o "$oracle/target/release/typed"
+    "$oracle/target/release/typed"
+fi

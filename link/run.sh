@@ -1,7 +1,8 @@
 #!/bin/sh
-# The library as its users have it. Compiles the header file by itself, strictly, as C and as C++; links the archive for this machine into a
+# The library as its users have it. Compiles each header file by itself, strictly, as C and as C++; links the archive for this machine into a
 # program in C and one in Rust, and compares what they print with expected.txt, which was written by hand from document 01. A second program
-# in C receives a stream in fragments, and is compared with receive.txt, written by hand likewise.
+# in C receives a stream in fragments, and is compared with receive.txt, written by hand likewise. Then the same through the typed header, as C
+# and as C++, and through the crate of bindings/rust, with typed.txt and refusals.txt behind it.
 # What the machine has no compiler for is said and not run; any failure fails.
 set -eu
 cd "$(dirname "$0")/.."
@@ -20,19 +21,21 @@ header() {
     shift 2
     for compiler; do
         here "$compiler" || continue
-        # shellcheck disable=SC2086
-        echo '#include "cfdp.h"' | "$compiler" "-std=$standard" $strict -Iinclude -fsyntax-only -x "$language" - ||
-            fail "$compiler does not take the header file as $standard"
+        for file in include/*.h; do
+            # shellcheck disable=SC2086
+            echo "#include \"${file#include/}\"" | "$compiler" "-std=$standard" $strict -Iinclude -fsyntax-only -x "$language" - ||
+                fail "$compiler does not take $file as $standard"
+        done
         by="$by $compiler"
     done
-    say "the header file is taken as $standard by:${by:- no compiler, as there is none}"
+    say "the header files are taken as $standard by:${by:- no compiler, as there is none}"
 }
 
-# printed LANGUAGE PROGRAM
+# printed LANGUAGE PROGRAM [EXPECTED]
 printed() {
-    "$2" >"$out/$1.txt"
-    diff link/expected.txt "$out/$1.txt" || fail "the program in $1 printed something else"
-    say "the program in $1 prints what document 01 says"
+    "$2" >"$out/printed.txt"
+    diff "${3:-link/expected.txt}" "$out/printed.txt" || fail "the program in $1 printed something else"
+    say "the program in $1 prints what was written by hand"
 }
 
 header c c99 cc gcc clang
@@ -59,9 +62,24 @@ cc -std=c99 $strict -O2 -Iinclude link/c/receive.c "$archive" -o "$out/receive"
 diff link/receive.txt "$out/receive.txt" || fail "the receiver in C printed something else"
 say "the receiver in C prints what document 02 says"
 
+# The typed programs have no answer's bare numbers, and more cases.
+{ grep -v '^numbers ' link/expected.txt && cat link/typed.txt link/refusals.txt; } >"$out/typed.txt"
+# shellcheck disable=SC2086
+cc -std=c99 $strict -O2 -Iinclude link/c/typed.c "$archive" -o "$out/typed"
+printed 'C, typed,' "$out/typed" "$out/typed.txt"
+if here c++; then
+    # shellcheck disable=SC2086
+    c++ -std=c++11 $strict -O2 -Iinclude -x c++ link/c/typed.c -x none "$archive" -o "$out/typed++"
+    printed 'C++, typed,' "$out/typed++" "$out/typed.txt"
+else
+    say "the program in C++ is not run: there is no c++"
+fi
+
 if here cargo; then
     cargo build --quiet --release --offline --locked --manifest-path link/rust/Cargo.toml --target-dir "$out/cargo"
     printed Rust "$out/cargo/release/link"
+    cargo build --quiet --release --offline --locked --manifest-path bindings/rust/Cargo.toml --target-dir "$out/cargo" --example cases
+    printed 'Rust, typed,' "$out/cargo/release/examples/cases" "$out/typed.txt"
 else
-    say "the program in Rust is not run: there is no cargo"
+    say "the programs in Rust are not run: there is no cargo"
 fi

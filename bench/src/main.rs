@@ -8,6 +8,7 @@ mod owed;
 mod plan;
 mod stream;
 mod timing;
+mod typed;
 
 use nak::Sample;
 use spacepackets::crc::{CRC_CCITT_FALSE, CRC_CCITT_FALSE_NO_TABLE};
@@ -49,6 +50,11 @@ fn main() {
         sample.beginnings(&format!("read each beginning of a NAK of {length} bytes"));
     }
     stream::table();
+    println!("\n| Typed names over the bare functions | bare, ns | typed, ns | typed / bare | of the least times |");
+    println!("|---|---:|---:|---:|---:|");
+    for pairs in [1, 100] {
+        typed::nak(pairs);
+    }
 }
 
 /// The Rust's PDUs go through its table of 256 remainders; it also has the form without one.
