@@ -135,8 +135,8 @@ fn stop(shown: &[u64]) -> u64 {
     4 + 2 * entity + sequence + length - 2 * crc
 }
 
-/// The record of a command; `None` for one that the port lacks, and for a lent buffer that is not filled
-/// with one byte.
+/// The record of a command; `None` for one that the port or the Rust lacks, and for a lent buffer that is
+/// not filled with one byte.
 pub fn encoded(command: &Command, expected: &Expected) -> Option<Vec<u8>> {
     use Command::*;
     let mut to = Encoder(Vec::new());
@@ -167,6 +167,7 @@ pub fn encoded(command: &Command, expected: &Expected) -> Option<Vec<u8>> {
             to.code(21).header(record).metadata(metadata).buffer(buf)?
         }
         WriteSized(..) => return None,
+        Receive(_) | Differ(..) | Owed(_) | CheckPlan(..) | Plan(..) => return None,
     };
     encoder.expected(command, expected);
     Some(to.0)
