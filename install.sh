@@ -21,7 +21,6 @@ cp LICENSE NOTICE "$prefix/share/doc/cfdp/"
 
 # A program with the loader, the C library and, where it is not for this machine, the emulator that ./run runs it with.
 for name in naklist pdulist nakstream nakdiff nakowed nakplan; do
-    [ -d "crates/$name" ] || continue
     command=$(./run -n "$name")
     cp "target/bin/$name" "$place/"
 done

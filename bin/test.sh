@@ -167,7 +167,6 @@ answers 1 nakdiff -x "$room/other.hex" - <<'END'
 refused 18 2 2    # pair or range out of order: NAK 2, pair 2
 END
 
-if [ -d crates/nakowed ]; then
 # ---- nakowed: N was heard, 120 to 150 was resent, then 100 to 200; then a range that is backwards
 
 printf '%s' '01 0018 2800110001020308 00000000 000003E8 00000064 000000C8' ' 02 0010 0000000000000078 0000000000000096' >"$room/log.hex"
@@ -193,9 +192,7 @@ answers 1 nakowed -x -j <<'END'
 --
 {"file": "-", "refused": 26, "values": [0], "text": "log entry cut, of an unknown tag or of a wrong length: at 0", "at": 0}
 END
-fi
 
-if [ -d crates/nakplan ]; then
 # ---- nakplan: of 0 to 1000 there is 0 to 100 and 200 to 500, and a packet of 24 bytes holds one request; its plan, and one that lacks a NAK
 
 printf '%s\n' 'header 0 0 0 0 0 0 0 0 1 1 1 2 1 3' 'packet 24' 'scope 0 1000' 'received 0 100' 'received 200 500' >"$room/task"
@@ -228,7 +225,6 @@ answers 1 nakplan -j "$room/task" <<END
 --
 {"file": "$room/task", "line": 6, "text": "says what was said before"}
 END
-fi
 
 # ---- installed
 

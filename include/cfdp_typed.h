@@ -135,6 +135,32 @@ typedef struct cfdp_difference {
     size_t ranges;
 } cfdp_difference;
 
+/* What is owed after a log so far; before its first entry it is all zeros. */
+typedef struct cfdp_owed {
+    uint64_t state[CFDP_OWED_LEN];
+} cfdp_owed;
+
+/* What is to be planned for: the header of the NAKs, how many bytes one has at most, the whole scope, and what of it is there, in ranges that
+   rise and stay apart. */
+typedef struct cfdp_missing {
+    cfdp_header header;
+    size_t packet;
+    cfdp_pair scope;
+    const cfdp_pair *received;
+    size_t received_count;
+} cfdp_missing;
+
+/* A NAK of a plan: its scope, and how many of the plan's requests are its own, in their order. */
+typedef struct cfdp_planned_nak {
+    cfdp_pair scope;
+    uint64_t requests;
+} cfdp_planned_nak;
+
+/* How many of a plan were stored. */
+typedef struct cfdp_planned {
+    size_t requests, naks;
+} cfdp_planned;
+
 /* ---- a refusal in words */
 
 /* What a refusal's number says, by the list of cfdp.h; the text stays where it is. */
@@ -576,7 +602,7 @@ static inline cfdp_status cfdp_metadata_put(const cfdp_metadata *metadata, uint8
     return cfdp_written_of(answer, written);
 }
 
-/* ---- two NAKs compared */
+/* ---- two NAKs compared, and a log run */
 
 /* cfdp_differ: what only one of the NAKs asks for; as many ranges as both have requests are room enough. */
 static inline cfdp_status cfdp_differ_get(cfdp_slice first, cfdp_slice second, cfdp_only *ranges, size_t room,
@@ -588,6 +614,62 @@ static inline cfdp_status cfdp_differ_get(cfdp_slice first, cfdp_slice second, c
     difference->metadata[1] = answer[CFDP_ANSWER_DIFFER_METADATA_2] != 0;
     difference->ranges = (size_t)answer[CFDP_ANSWER_DIFFER_RANGES];
     return status;
+}
+
+/* The state before the first entry of a log. */
+static inline void cfdp_owed_reset(cfdp_owed *owed) { memset(owed->state, 0, sizeof owed->state); }
+
+/* cfdp_owed_entry: takes the entry at that offset of the log, which lies in it; accepted, the offset is then the next entry's. */
+static inline cfdp_status cfdp_owed_take(cfdp_owed *owed, cfdp_slice log, size_t *at) {
+    uint64_t answer[CFDP_ANSWER_LEN];
+    size_t length;
+    cfdp_owed_entry(log.bytes + *at, log.length - *at, *at, owed->state, answer);
+    cfdp_status status = cfdp_value_of(answer, &length);
+    *at += length;
+    return status;
+}
+
+/* cfdp_owed_run: takes the entries from that offset on, which then is the log's end, or the entry's that was refused. */
+static inline cfdp_status cfdp_owed_take_all(cfdp_owed *owed, cfdp_slice log, size_t *at) {
+    uint64_t answer[CFDP_ANSWER_LEN];
+    cfdp_owed_run(log.bytes, log.length, *at, owed->state, answer);
+    *at = (size_t)answer[CFDP_ANSWER_OWED_AT];
+    return cfdp_status_of(answer);
+}
+
+/* The range of an index, from 0, of those that are owed; false and zeros where there is none. */
+static inline bool cfdp_owed_at(const cfdp_owed *owed, size_t index, cfdp_pair *range) {
+    bool there = index < CFDP_MOST_OWED && index < owed->state[CFDP_OWED_COUNT];
+    range->start = there ? owed->state[2 * index] : 0;
+    range->end = there ? owed->state[2 * index + 1] : 0;
+    return there;
+}
+
+/* ---- plans */
+
+/* cfdp_plan: a plan for what is missing. */
+static inline cfdp_status cfdp_plan_get(const cfdp_missing *missing, cfdp_pair *requests, size_t requests_room,
+                                        cfdp_planned_nak *naks, size_t naks_room, cfdp_planned *planned) {
+    const cfdp_numbers numbers = cfdp_numbers_of(&missing->header);
+    uint64_t answer[CFDP_ANSWER_LEN];
+    cfdp_plan(numbers.shape, numbers.ids, missing->packet, &missing->received->start, 2 * missing->received_count,
+              missing->scope.start, missing->scope.end, &requests->start, 2 * requests_room, &naks->scope.start, 3 * naks_room,
+              answer);
+    cfdp_status status = cfdp_status_of(answer);
+    planned->requests = (size_t)answer[CFDP_ANSWER_PLAN_REQUESTS];
+    planned->naks = (size_t)answer[CFDP_ANSWER_PLAN_NAKS];
+    return status;
+}
+
+/* cfdp_plan_check: whether a plan, of anyone's, asks for exactly what is missing, in NAKs that fit. */
+static inline cfdp_status cfdp_plan_accepts(const cfdp_missing *missing, const cfdp_pair *requests, size_t requests_count,
+                                            const cfdp_planned_nak *naks, size_t naks_count, bool *accepted) {
+    const cfdp_numbers numbers = cfdp_numbers_of(&missing->header);
+    uint64_t answer[CFDP_ANSWER_LEN];
+    cfdp_plan_check(numbers.shape, numbers.ids, missing->packet, &missing->received->start, 2 * missing->received_count,
+                    missing->scope.start, missing->scope.end, &requests->start, 2 * requests_count, &naks->scope.start,
+                    3 * naks_count, answer);
+    return cfdp_verdict_of(answer, accepted);
 }
 
 #endif

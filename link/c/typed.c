@@ -1,5 +1,5 @@
 /* Does with cfdp_typed.h what main.c does with cfdp.h, and then what the records have beside that: each field of a header, each form of
-   writing and comparing, a receiver, an EOF, an ACK, a Metadata PDU, two NAKs compared, and every refusal in words. It is C99 and C++11. */
+   writing and comparing, a receiver, an EOF, an ACK, a Metadata PDU, two NAKs compared, a log, a plan, and every refusal in words. It is C99 and C++11. */
 #include <inttypes.h>
 #include <stdio.h>
 #include <string.h>
@@ -270,6 +270,46 @@ static void differ(const cfdp_header *header) {
     printf("metadata %d %d\n", difference.metadata[0], difference.metadata[1]);
 }
 
+/* N was heard, 120 to 150 was resent, and then an entry of no known tag */
+static void owe(void) {
+    static const uint8_t behind[19 + 3] = {0x02, 0x00, 0x10, 0, 0, 0, 0, 0, 0, 0, 120, 0, 0, 0, 0, 0, 0, 0, 150, 0x03, 0x00, 0x00};
+    uint8_t bytes[3 + sizeof N + sizeof behind] = {0x01, 0x00, 0x18};
+    cfdp_slice log = {bytes, sizeof bytes};
+    cfdp_owed owed;
+    cfdp_pair range;
+    cfdp_status status;
+    size_t at = 0;
+    memcpy(bytes + 3, N, sizeof N);
+    memcpy(bytes + 3 + sizeof N, behind, sizeof behind);
+    cfdp_owed_reset(&owed);
+    while ((status = cfdp_owed_take(&owed, log, &at)).number == CFDP_ACCEPTED) {
+        for (size_t i = 0; cfdp_owed_at(&owed, i, &range); i++)
+            printf("owed %" PRIu64 " %" PRIu64 ", ", range.start, range.end);
+        printf("at %zu\n", at);
+    }
+    print_refusal(status);
+    at = 0;
+    cfdp_owed_reset(&owed);
+    status = cfdp_owed_take_all(&owed, log, &at);
+    printf("; all at once %d at %zu\n", status.number, at);
+}
+
+/* of 0 to 1000 there is 0 to 100 and 200 to 500, and a packet holds one request */
+static void plan(cfdp_header header) {
+    static const cfdp_pair received[2] = {{0, 100}, {200, 500}};
+    cfdp_missing missing = {header, 24, scope, received, 2};
+    cfdp_pair requests[4];
+    cfdp_planned_nak naks[4];
+    cfdp_planned planned;
+    bool accepted, shorter;
+    cfdp_plan_get(&missing, requests, 4, naks, 4, &planned);
+    for (size_t i = 0; i < planned.naks; i++)
+        printf("nak %" PRIu64 " %" PRIu64 " with %" PRIu64 ", ", naks[i].scope.start, naks[i].scope.end, naks[i].requests);
+    cfdp_plan_accepts(&missing, requests, planned.requests, naks, planned.naks, &accepted);
+    cfdp_plan_accepts(&missing, requests, planned.requests - 1, naks, planned.naks - 1, &shorter);
+    printf("of %zu requests: accepted %d, without the last %d\n", planned.requests, accepted, shorter);
+}
+
 int main(void) {
     cfdp_header header = cfdp_header_new(1, 1, 3, 1, 2);
     printf("checksum %" PRIx16 "\n", cfdp_checksum((const uint8_t *)"123456789", 9));
@@ -284,6 +324,8 @@ int main(void) {
     eof_and_ack(header);
     metadata(header);
     differ(&header);
+    owe();
+    plan(header);
     for (int number = 0; number <= 33; number++)
         printf("%d %s\n", number, cfdp_refusal_text(number));
     return 0;

@@ -361,6 +361,64 @@ fn differ_n(header: &Header) -> Result<(), Refusal> {
     Ok(())
 }
 
+/// N was heard, 120 to 150 was resent, and then an entry of no known tag.
+fn owe() {
+    let resent = b"\x02\x00\x10\x00\x00\x00\x00\x00\x00\x00\x78\x00\x00\x00\x00\x00\x00\x00\x96";
+    let log = [b"\x01\x00\x18", &N[..], resent, b"\x03\x00\x00"].concat();
+    let (mut owed, mut at) = (Owed::new(), 0);
+    let refusal = loop {
+        match owed.take(&log, at) {
+            Ok(next) => at = next,
+            refusal => break refused(refusal),
+        }
+        owed.ranges()
+            .for_each(|range| print!("owed {} {}, ", range.start, range.end));
+        println!("at {at}");
+    };
+    let mut again = Owed::new();
+    let (at, all) = again.run(&log, 0);
+    assert!(again == owed && refused(all) == refusal);
+    println!(
+        "{refusal}; all at once {} at {at}",
+        all.map_or_else(|refusal| refusal.numbers().0, |()| 0)
+    );
+}
+
+/// Of 0 to 1000 there is 0 to 100 and 200 to 500, and a packet holds one request.
+fn plan(header: &Header) -> Result<(), Refusal> {
+    let received = [
+        Pair { start: 0, end: 100 },
+        Pair {
+            start: 200,
+            end: 500,
+        },
+    ];
+    let missing = Missing {
+        header,
+        packet: 24,
+        scope: SCOPE,
+        received: &received,
+    };
+    let (mut requests, mut naks) = ([Pair::default(); 4], [PlannedNak::default(); 4]);
+    let planned = missing.plan(&mut requests, &mut naks)?;
+    let (requests, naks) = (&requests[..planned.requests], &naks[..planned.naks]);
+    for nak in naks {
+        print!(
+            "nak {} {} with {}, ",
+            nak.scope.start, nak.scope.end, nak.requests
+        );
+    }
+    let accepted = missing.accepts(requests, naks)?;
+    let shorter = missing.accepts(&requests[..requests.len() - 1], &naks[..naks.len() - 1])?;
+    println!(
+        "of {} requests: accepted {}, without the last {}",
+        requests.len(),
+        accepted as u8,
+        shorter as u8
+    );
+    Ok(())
+}
+
 fn main() -> Result<(), Refusal> {
     let header = Header {
         entity_width: 1,
@@ -390,6 +448,8 @@ fn main() -> Result<(), Refusal> {
     eof_and_ack(header)?;
     metadata(header)?;
     differ_n(&header)?;
+    owe();
+    plan(&header)?;
     println!("0 accepted");
     for number in 1..=33 {
         let refusal = Refusal::from_numbers(number, 0, 0);

@@ -4,11 +4,14 @@
 //! No function of the library asks anything of its arguments but that they are what Rust's references are: a slice
 //! goes over as its pointer and its length, an array as its pointer, and none is kept after the call.
 #![allow(unsafe_code)]
-use crate::{Ack, Eof, Header, Metadata, Only, Pair, Refusal};
+use crate::{Ack, Eof, Header, Metadata, Missing, Only, Pair, PlannedNak, Refusal};
 use core::mem::MaybeUninit;
 
 pub(crate) const ANSWER_LEN: usize = 24;
 pub(crate) const WINDOW_LEN: usize = 2048;
+pub(crate) const MOST_OWED: usize = 256;
+pub(crate) const OWED_LEN: usize = 516;
+pub(crate) const OWED_COUNT: usize = 512;
 pub(crate) type Answer = [u64; ANSWER_LEN];
 type Answered = Result<Answer, Refusal>;
 
@@ -66,6 +69,10 @@ pub(crate) const OPTION_NEXT: usize = 4;
 pub(crate) const DIFFER_METADATA_1: usize = 1;
 pub(crate) const DIFFER_METADATA_2: usize = 2;
 pub(crate) const DIFFER_RANGES: usize = 3;
+const OWED_AT: usize = 3;
+
+pub(crate) const PLAN_REQUESTS: usize = 1;
+pub(crate) const PLAN_NAKS: usize = 2;
 
 mod raw {
     use super::Answer;
@@ -101,7 +108,20 @@ mod raw {
         pub fn cfdp_metadata_read(bytes: *const u8, len: usize, answer: Into);
         pub fn cfdp_metadata_option(area: *const u8, len: usize, at: usize, answer: Into);
         pub fn cfdp_metadata_write(shape: Shape, ids: Ids, closure: bool, checksum_type: u8, file_size: u64, source: *const u8, source_len: usize, destination: *const u8, destination_len: usize, options: *const u8, options_len: usize, buf: *mut u8, len: usize, answer: Into);
+        pub fn cfdp_owed_entry(bytes: *const u8, len: usize, at: usize, state: *mut [u64; super::OWED_LEN], answer: Into);
+        pub fn cfdp_owed_run(log: *const u8, len: usize, from: usize, state: *mut [u64; super::OWED_LEN], answer: Into);
+        pub fn cfdp_plan(shape: Shape, ids: Ids, packet: usize, received: *const u64, received_len: usize, start: u64, end: u64, requests: *mut u64, requests_len: usize, naks: *mut u64, naks_len: usize, answer: Into);
+        pub fn cfdp_plan_check(shape: Shape, ids: Ids, packet: usize, received: *const u64, received_len: usize, start: u64, end: u64, requests: *const u64, requests_len: usize, naks: *const u64, naks_len: usize, answer: Into);
         pub fn cfdp_differ(first: *const u8, first_len: usize, second: *const u8, second_len: usize, ranges: *mut u64, ranges_len: usize, answer: Into);
+    }
+}
+
+/// Why an answer is none.
+#[inline(always)]
+fn said(answer: &Answer) -> Result<(), Refusal> {
+    match answer[NUMBER] {
+        0 => Ok(()),
+        number => Err(Refusal::from_numbers(number, answer[FIRST], answer[SECOND])),
     }
 }
 
@@ -112,10 +132,7 @@ fn answered(call: impl FnOnce(*mut Answer)) -> Answered {
     call(answer.as_mut_ptr());
     // Every call writes all of its answer.
     let answer: Answer = unsafe { answer.assume_init() };
-    match answer[NUMBER] {
-        0 => Ok(answer),
-        number => Err(Refusal::from_numbers(number, answer[FIRST], answer[SECOND])),
-    }
+    said(&answer).map(|()| answer)
 }
 
 /// A header as the library takes it.
@@ -444,6 +461,66 @@ pub(crate) fn metadata_write(metadata: &Metadata, buf: &mut [u8]) -> Answered {
             options.len(),
             buf.as_mut_ptr(),
             buf.len(),
+            answer,
+        )
+    })
+}
+
+pub(crate) fn owed_entry(bytes: &[u8], at: usize, state: &mut [u64; OWED_LEN]) -> Answered {
+    answered(|answer| unsafe {
+        raw::cfdp_owed_entry(bytes.as_ptr(), bytes.len(), at, state, answer)
+    })
+}
+
+/// Where it stands, and why it was refused.
+pub(crate) fn owed_run(
+    log: &[u8],
+    from: usize,
+    state: &mut [u64; OWED_LEN],
+) -> (usize, Result<(), Refusal>) {
+    let mut answer = [0; ANSWER_LEN];
+    unsafe { raw::cfdp_owed_run(log.as_ptr(), log.len(), from, state, &mut answer) };
+    (answer[OWED_AT] as usize, said(&answer))
+}
+
+pub(crate) fn plan(missing: &Missing, requests: &mut [Pair], naks: &mut [PlannedNak]) -> Answered {
+    let ((shape, ids), scope) = (numbers(missing.header), missing.scope);
+    let (received, count) = by_turns(missing.received);
+    answered(|answer| unsafe {
+        raw::cfdp_plan(
+            &shape,
+            &ids,
+            missing.packet,
+            received,
+            count,
+            scope.start,
+            scope.end,
+            requests.as_mut_ptr().cast(),
+            2 * requests.len(),
+            naks.as_mut_ptr().cast(),
+            3 * naks.len(),
+            answer,
+        )
+    })
+}
+
+pub(crate) fn plan_check(missing: &Missing, requests: &[Pair], naks: &[PlannedNak]) -> Answered {
+    let ((shape, ids), scope) = (numbers(missing.header), missing.scope);
+    let (received, count) = by_turns(missing.received);
+    let (requests, asked) = by_turns(requests);
+    answered(|answer| unsafe {
+        raw::cfdp_plan_check(
+            &shape,
+            &ids,
+            missing.packet,
+            received,
+            count,
+            scope.start,
+            scope.end,
+            requests,
+            asked,
+            naks.as_ptr().cast(),
+            3 * naks.len(),
             answer,
         )
     })
