@@ -4,6 +4,7 @@ pub mod Window
 pub mod Storing
 pub mod Calls
 pub mod Cutting
+pub mod Shorts
 pub mod Waits
 pub mod Given
 pub mod Laid

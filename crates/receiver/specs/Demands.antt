@@ -1,12 +1,9 @@
 -- What is proved beyond the promises: 'however the stream is cut, repeated calls until every fragment is used, or one is refused, give the same NAKs, refusal and end state'; that written NAKs are all given; and what the waiting costs.
-use Prim.Native.Nat.{ℕ, zero, suc, _+_, _-_, _/_, _≤_, _<_}
+use Prim.Native.Nat.{ℕ, zero, suc, _+_, _/_, _≤_, _<_}
 use mathlib.Core.Path.{_≡_}
 use mathlib.Core.List.{List, [], _∷_, _++_, map}
-use lib.Dec.{ltb}
 use lib.ListN.{length, getD, take, drop}
-use lib.Seq.{sets}
-use Rattle.fields.specs.Choice.{if_then_else_}
-use Rattle.fields.specs.Answer.{Answer, accepted, short, refused}
+use Rattle.fields.specs.Answer.{accepted}
 use Rattle.fields.specs.Staged.{run}
 use Rattle.fields.specs.Demand3.{Demand3}
 use Rattle.header.specs.declared.PduHeader.{PduHeader}
@@ -22,7 +19,8 @@ use Rattle.nak.specs.Demands.{byTurns, Lent, readAs}
 use Rattle.receiver.specs.declared.Receiver.{Receiver}
 use Rattle.receiver.specs.declared.Received.{Received}
 use Rattle.receiver.specs.declared.Taken.{Taken}
-use Rattle.receiver.specs.Receiving.{windowLength, receiving, fresh, status, stateOf, Outcomes, more, nak, refusal, Call, call, callOf, takenOf}
+use Rattle.receiver.specs.Receiving.{windowLength, receiving, fresh, Outcomes, more, nak, refusal, Call, call, callOf, takenOf}
+use Rattle.receiver.specs.Within.{shortReadings}
 
 -- ---- a stream, however it is cut
 
@@ -145,24 +143,9 @@ OneTaken = (a b : Taken) → takenOf a ≡ takenOf b → a ≡ b
 abbrev pub ReceivingDemand3 : Type 0
 ReceivingDemand3 = Demand3 (run receiving) 4
 
--- the bytes of f in the window, up to the length n
-abbrev pub filledTo : ℕ → Receiver → List ℕ → Receiver
-filledTo n r f = stateOf (sets (r .window) (r .filled) (take (n - r .filled) f)) n
-
--- one turn of the code's loop: behind a reading that was short with the need n, if the fragment has the bytes up to n, they are taken, and the next reading is of n bytes
-abbrev pub turned : Answer Nak → Receiver → List ℕ → (Receiver → List ℕ → ℕ) → ℕ
-turned (accepted n) r f again = 0
-turned (short l n) r f again = suc (if ltb (length f) (n - r .filled) then 0 else again (filledTo n r f) (drop (n - r .filled) f))
-turned (refused ns) r f again = 0
-
--- how many readings of a call are short, in at most so many turns
-abbrev pub shorts : ℕ → Receiver → List ℕ → ℕ
-shorts zero r f = 0
-shorts (suc turns) r f = turned (status r) r f (shorts turns)
-
--- at most four a call
+-- at most four readings of a call are short; `receive_in` promises to count `shortReadings`
 abbrev pub FewShorts : Type 0
-FewShorts = (turns : ℕ) (r : Receiver) (f : List ℕ) → length (r .window) ≡ windowLength → shorts turns r f ≤ 4
+FewShorts = (r : Receiver) (f : List ℕ) → length (r .window) ≡ windowLength → shortReadings r f ≤ 4
 
 -- how many are short in calls with fragments, until one gives a NAK or a refusal
 abbrev pub andOn : Outcomes → ℕ → ℕ
@@ -170,10 +153,10 @@ andOn more k = k
 andOn (nak n) k = 0
 andOn (refusal ns) k = 0
 
-abbrev pub allShorts : ℕ → Receiver → List (List ℕ) → ℕ
-allShorts turns r [] = 0
-allShorts turns r (f ∷ fs) = shorts turns r f + andOn (call r f .gives) (allShorts turns (call r f .leaves) fs)
+abbrev pub allShorts : Receiver → List (List ℕ) → ℕ
+allShorts r [] = 0
+allShorts r (f ∷ fs) = shortReadings r f + andOn (call r f .gives) (allShorts (call r f .leaves) fs)
 
 -- at most four a PDU, and one more for each further call that it comes in
 abbrev pub FewAPdu : Type 0
-FewAPdu = (turns : ℕ) (r : Receiver) (f : List ℕ) (fs : List (List ℕ)) → length (r .window) ≡ windowLength → allShorts turns r (f ∷ fs) ≤ 4 + length fs
+FewAPdu = (r : Receiver) (f : List ℕ) (fs : List (List ℕ)) → length (r .window) ≡ windowLength → allShorts r (f ∷ fs) ≤ 4 + length fs

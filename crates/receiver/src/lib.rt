@@ -7,7 +7,7 @@ ghost use Rattle.fields.specs.Answer.{told};
 ghost use Rattle.fields.specs.Refusal.{paper};
 ghost use Rattle.fields.specs.Staged.{run};
 ghost use Rattle.receiver.specs.Receiving.{windowLength, receiving, fresh, stateOf, callOf, takenOf, call};
-ghost use Rattle.receiver.specs.Within.{statusAnswer, capped};
+ghost use Rattle.receiver.specs.Within.{statusAnswer, capped, shortReadings};
 use fields::Refusal;
 use nak::Nak;
 use nak::NakResult;
@@ -41,6 +41,12 @@ pub struct Taken {
     pub taken: usize,
     pub outcome: Outcome,
     pub receiver: Receiver,
+}
+
+// What a call gives, and how many of its readings were short.
+struct Counted {
+    received: Received,
+    shorts: usize,
 }
 
 // What the bytes in the window say.
@@ -97,42 +103,42 @@ fn store(window: &mut [u8], at: usize, bytes: &[u8])
     }
 }
 
+// The end of a call.
+fn ended(taken: usize, outcome: Outcome, filled: usize, shorts: usize) -> Counted
+    ensures { λ r. ⌜ r ≡ record { received = record { taken = taken; outcome = outcome; filled = filled }; shorts = shorts } ⌝ }
+{
+    let received = Received {
+        taken,
+        outcome,
+        filled,
+    };
+    Counted { received, shorts }
+}
+
 // A call, a named length at a time. Demand 3 allows it: below the length that a short reading names, every reading would be short with the
-// same need, so the bytes up to it are stored at once. The loop turns at most four times, once for each length that a PDU names.
-fn receive_in(window: &mut [u8], filled: usize, fragment: &[u8]) -> Received
+// same need, so the bytes up to it are stored at once. A turn is a reading, and those that are short are counted: they are at most four, one
+// for each length that a PDU names.
+fn receive_in(window: &mut [u8], filled: usize, fragment: &[u8]) -> Counted
     requires { ⌜ length (now window) ≡ windowLength ⌝ }
-    ensures { λ r. ⌜ callOf r (now (window .exit)) ≡ call (stateOf (now (window .entry)) filled) (now (fragment .entry)) ⌝ }
+    ensures called { λ r. ⌜ callOf (r .received) (now (window .exit)) ≡ call (stateOf (now (window .entry)) filled) (now (fragment .entry)) ⌝ }
+    ensures counted { λ r. ⌜ r .shorts ≡ shortReadings (stateOf (now (window .entry)) filled) (now (fragment .entry)) ⌝ }
 {
     let mut at = filled;
     let mut taken = 0;
+    let mut shorts = 0;
     loop {
         let said = status_of(window, at);
         match said {
-            Status::Whole(nak) => {
-                return Received {
-                    taken,
-                    outcome: Outcome::Nak(nak),
-                    filled: 0,
-                };
-            }
-            Status::Bad(refusal) => {
-                return Received {
-                    taken,
-                    outcome: Outcome::Refused(refusal),
-                    filled: at,
-                };
-            }
+            Status::Whole(nak) => return ended(taken, Outcome::Nak(nak), 0, shorts),
+            Status::Bad(refusal) => return ended(taken, Outcome::Refused(refusal), at, shorts),
             Status::Wants { found: _, need } => {
+                shorts += 1;
                 let wanted = need - at;
                 let left = fragment.len() - taken;
                 if left < wanted {
                     let there = at + left;
                     store(window, at, &fragment[taken..]);
-                    return Received {
-                        taken: fragment.len(),
-                        outcome: Outcome::More,
-                        filled: there,
-                    };
+                    return ended(fragment.len(), Outcome::More, there, shorts);
                 }
                 let next = taken + wanted;
                 store(window, at, &fragment[taken..next]);
@@ -147,7 +153,8 @@ fn receive_in(window: &mut [u8], filled: usize, fragment: &[u8]) -> Received
 pub fn receive(window: &mut [u8; 2048], filled: usize, fragment: &[u8]) -> Received
     ensures { λ r. ⌜ callOf r (now (window .exit)) ≡ call (stateOf (now (window .entry)) filled) (now (fragment .entry)) ⌝ }
 {
-    receive_in(window, filled, fragment)
+    let call = receive_in(window, filled, fragment);
+    call.received
 }
 
 impl Receiver {
