@@ -90,6 +90,12 @@ turns-back n (a ∷ []) e = absurd (omega arith)
 turns-back zero (a ∷ b ∷ ns) e = absurd (omega arith)
 turns-back (suc n) (a ∷ b ∷ ns) e = ap (λ (x : List ℕ). a ∷ b ∷ x) (turns-back n ns (omega arith))
 
+-- half as many pairs as numbers
+pub turns-length : (ns : List ℕ) → length (byTurns ns) ≡ length ns / 2
+turns-length [] = refl
+turns-length (a ∷ []) = refl
+turns-length (a ∷ b ∷ ns) = omega (arith, turns-length ns)
+
 -- the bytes of a NAK that holds c
 bytesFor : Contents → List ℕ
 bytesFor c = nakBytes (c .header) (c .start) (c .end) (flat (c .pairs))
@@ -99,16 +105,16 @@ module _ (k : Archived) where
   abbrev as-read : Nak
   as-read = readAs (k .written .header) (k .start) (k .end) (length (k .numbers) / 2)
 
-  back : (t : List ℕ) → ReadsBack (k .written .header) (k .start) (k .end) (k .numbers) (bytesOf k ++ t)
-  back t = written-reads-back (k .file) (k .header) (k .start) (k .end) (k .room) (k .numbers) t (k .written) (k .scope) (k .lent) (k .taken)
+  pub archived-back : (t : List ℕ) → ReadsBack (k .written .header) (k .start) (k .end) (k .numbers) (bytesOf k ++ t)
+  archived-back t = written-reads-back (k .file) (k .header) (k .start) (k .end) (k .room) (k .numbers) t (k .written) (k .scope) (k .lent) (k .taken)
 
   has : ToWrite (k .file) (k .header) (k .start) (k .end) (length (k .numbers)) (k .room) (k .written)
   has = to-write (k .file) (k .header) (k .start) (k .end) (length (k .numbers)) (k .room) (k .written) (sym (k .taken))
 
   -- it has P bytes
-  bytes-length : length (bytesOf k) ≡ pduLength (k .written .header)
+  pub archived-length : length (bytesOf k) ≡ pduLength (k .written .header)
   unfolding nakBytes nakOver areaStart
-  bytes-length =
+  archived-length =
       let h = k .written .header in
       let area = numbersBytes (sizeWidth (h .file)) (k .numbers) in
       let size : length area ≡ sizeWidth (k .file) * length (k .numbers) = numbers-length _ (k .numbers) ∙ ap (λ (f : LargeFileFlag). sizeWidth f * length (k .numbers)) (has .flag) in
@@ -120,7 +126,7 @@ module _ (k : Archived) where
   bytes-for = ap (nakBytes (k .written .header) (k .start) (k .end)) (sym (turns-back _ (k .numbers) (has .own .even)))
 
 pub archived-is-whole : ArchivedIsWhole
-archived-is-whole k = record { nak = as-read k; read = ap (run readingNak) (sym (append-nil (bytesOf k))) ∙ back k [] .read; ends = bytes-length k }
+archived-is-whole k = record { nak = as-read k; read = ap (run readingNak) (sym (append-nil (bytesOf k))) ∙ archived-back k [] .read; ends = archived-length k }
 
 pub no-beginning : NoBeginning
 no-beginning j k t e = no-whole-beginning (bytesOf j) (bytesOf k) t (archived-is-whole j) (archived-is-whole k) e
@@ -128,12 +134,12 @@ no-beginning j k t e = no-whole-beginning (bytesOf j) (bytesOf k) t (archived-is
 pub archive-reads-back : ArchiveReadsBack
 archive-reads-back [] = refl
 archive-reads-back (k ∷ ks) =
-    let b = back k (archive ks) in
+    let b = archived-back k (archive ks) in
     record {
       nak = as-read k;
       read = b .read;
       holds = λ i. record { header = k .written .header; start = k .start; end = k .end; pairs = b .pairs i };
-      rest = subst (ReadAs (map contentsOf ks)) (sym (drop-at (bytesOf k) (archive ks) (pduLength (k .written .header)) (bytes-length k))) (archive-reads-back ks);
+      rest = subst (ReadAs (map contentsOf ks)) (sym (drop-at (bytesOf k) (archive ks) (pduLength (k .written .header)) (archived-length k))) (archive-reads-back ks);
     }
 
 pub one-list : OneList
@@ -156,7 +162,7 @@ writer-leaves file h start end numbers s w scope lent e =
     record {
       nak = k;
       contents = refl;
-      bytes = ap (take (w .length)) (begins-with file h start end numbers s w e) ∙ take-at (bytesOf k) _ (w .length) (bytes-length k ∙ sym (has k .length-is));
+      bytes = ap (take (w .length)) (begins-with file h start end numbers s w e) ∙ take-at (bytesOf k) _ (w .length) (archived-length k ∙ sym (has k .length-is));
     }
 
 -- the n numbers of w bytes from `at` on

@@ -1,37 +1,28 @@
--- What a receiver of a stream has to know of NAKs: their stages behind the header, the bytes that an accepted NAK has and shows, and the bytes that a written one has.
+-- What a receiver of a stream has to know of NAKs: their stages behind the header, and the bytes that an accepted NAK has and shows.
 -- Assumes nothing.
-use Prim.Native.Nat.{ℕ, _+_, _-_, _*_, _≤_, _<_}
+use Prim.Native.Nat.{ℕ, _+_, _-_, _≤_, _<_}
 use mathlib.Core.Path.{_≡_, refl, sym, ap, subst, _∙_}
 use mathlib.Core.Bool.{Bool, true, false}
-use mathlib.Core.List.{List, [], _∷_, _++_}
+use mathlib.Core.List.{List, _++_}
 use native.Mathlib.Omega.{arith}
 use lib.Dec.{ltb}
 use lib.ListN.{length, take, drop, length-drop}
-use lib.Seq.{take-at, take-append-le, drop-append-le}
+use lib.Seq.{take-append-le, drop-append-le}
 use borrow.Author.Tests.{ltb-true, ltb-false}
 use Rattle.fields.specs.Answer.{accepted, short}
 use Rattle.fields.specs.Staged.{Staged, run, _>>=_}
 use Rattle.fields.specs.Demand3.{Final, AtMost}
 use Rattle.fields.proofs.Waiting.{Asks}
 use Rattle.header.specs.declared.PduHeader.{PduHeader}
-use Rattle.header.specs.declared.pdu.PduWritten.{PduWritten}
-use Rattle.header.specs.declared.flags.LargeFileFlag.{LargeFileFlag}
-use Rattle.header.specs.Header.{headerLength, pduLength, crcLength}
+use Rattle.header.specs.Header.{pduLength}
 use Rattle.header.specs.Reading.{readingHeader}
 use Rattle.header.specs.Directive.{leastLength}
-use Rattle.header.specs.Size.{sizeWidth}
-use Rattle.header.proofs.Verifying.{pdu-sum}
 use Rattle.header.proofs.Behind.{behind, behind-two, behind-asks, behind-short, headed-reader, accepted-whole}
-use Rattle.header.proofs.PdusBack.{over-length}
 use Rattle.nak.specs.declared.Nak.{Nak}
-use Rattle.nak.specs.Nak.{nakCode, areaStart, nakIn}
+use Rattle.nak.specs.Nak.{nakCode, nakIn}
 use Rattle.nak.specs.Reading.{readingNak}
 use Rattle.nak.specs.Requests.{areaOf}
-use Rattle.nak.specs.Writing.{numbersBytes, nakData, nakOver, nakBytes, writingNak, nakMemory}
-use Rattle.nak.proofs.Reading.{readTests, area-is}
-use Rattle.nak.proofs.Storing.{data-length, numbers-length}
-use Rattle.nak.proofs.Writing.{to-write}
-use Rattle.nak.proofs.RoundTrip.{begins-with}
+use Rattle.nak.proofs.Reading.{readTests}
 use Rattle.nak.proofs.Demands.{nak-demand3, accepted-shows}
 
 -- ---- the stages behind the header
@@ -75,25 +66,3 @@ same-area s t n e =
         let b : n .area ≤ length s = ltb-false (length s) (n .area) c in
         ap (take (n .stop - n .area)) (drop-append-le (n .area) s t b)
         ∙ take-append-le (n .stop - n .area) (drop (n .area) s) t (omega (arith, length-drop (n .area) s))
-
--- ---- a written NAK
-
-module _ (file : LargeFileFlag) (h : PduHeader) (start end : ℕ) (numbers : List ℕ) (w : PduWritten) where
-  -- has so many bytes as the writer says
-  pub written-length : (room : ℕ) → writingNak file h start end (length numbers) room ≡ accepted w → length (nakBytes (w .header) start end numbers) ≡ w .length
-  unfolding nakBytes nakOver
-  written-length room e =
-      let k = w .header in
-      let z = to-write file h start end (length numbers) room w (sym e) in
-      let area = numbersBytes (sizeWidth (k .file)) numbers in
-      let f : sizeWidth file ≡ sizeWidth (k .file) = sym (ap sizeWidth (z .flag)) in
-      let l : length area ≡ sizeWidth file * length numbers = numbers-length (sizeWidth (k .file)) numbers ∙ ap (λ (u : ℕ). u * length numbers) (sym f) in
-      let d = data-length (k .file) start end area in
-      let a = area-is k (headerLength k) (sizeWidth (k .file)) refl refl in
-      over-length k (nakData (k .file) start end area) (omega (arith, d, l, a, z .whole, pdu-sum k)) ∙ sym (z .length-is)
-
-  -- and they stand in front of the buffer that it leaves
-  pub written-there : (s : List ℕ) → writingNak file h start end (length numbers) (length s) ≡ accepted w → take (w .length) (nakMemory file h start end numbers s) ≡ nakBytes (w .header) start end numbers
-  written-there s e =
-      let N = nakBytes (w .header) start end numbers in
-      ap (take (w .length)) (begins-with file h start end numbers s w e) ∙ take-at N (drop (length N) s) (w .length) (written-length (length s) e)

@@ -7,9 +7,10 @@ use native.Mathlib.Omega.{arith}
 use lib.ListN.{length, drop, length-append}
 use Rattle.fields.specs.Answer.{Answer, accepted, short, refused}
 use Rattle.nak.specs.declared.Nak.{Nak}
+use Rattle.nak.specs.Archive.{endToEnd}
 use Rattle.receiver.specs.declared.Receiver.{Receiver}
 use Rattle.receiver.specs.Receiving.{fresh, status, put, begun, Outcomes, more, nak, refusal, Call, oneMore, call}
-use Rattle.receiver.specs.Demands.{shown, Heard, andBefore, goOn, session, joined, Enough, HoweverCut}
+use Rattle.receiver.specs.Demands.{shown, Heard, andBefore, goOn, session, Enough, HoweverCut}
 use Rattle.receiver.proofs.Reading.{empty-waits}
 use Rattle.receiver.proofs.Calls.{call-nak, call-refused, call-none, call-one}
 
@@ -68,19 +69,19 @@ follows (b ∷ bs) r g w =
 
 -- ---- repeated calls
 
-pub hears : (rounds : ℕ) (r : Receiver) (fs : List (List ℕ)) → Waiting r → Enough rounds fs → session rounds r fs ≡ stream r (joined fs)
+pub hears : (rounds : ℕ) (r : Receiver) (fs : List (List ℕ)) → Waiting r → Enough rounds fs → session rounds r fs ≡ stream r (endToEnd fs)
 hears zero r fs w h = absurd (let b : ⊥ = omega arith in b)
 hears (suc rounds) r [] w h = refl
-hears (suc rounds) r (f ∷ fs) w h = go (call r f .gives) (follows f r (joined fs) w) (λ q gs v k. hears rounds q gs v k)
+hears (suc rounds) r (f ∷ fs) w h = go (call r f .gives) (follows f r (endToEnd fs) w) (λ q gs v k. hears rounds q gs v k)
   where
     c : Call
     c = call r f
 
-    go : (o : Outcomes) → Goes o r f (joined fs) c → ((q : Receiver) (gs : List (List ℕ)) → Waiting q → Enough rounds gs → session rounds q gs ≡ stream q (joined gs))
-        → goOn o c f fs (session rounds) ≡ stream r (f ++ joined fs)
-    go more k again = again (c .leaves) fs (k .1) (omega (arith, length-append f (joined fs))) ∙ sym (k .0)
+    go : (o : Outcomes) → Goes o r f (endToEnd fs) c → ((q : Receiver) (gs : List (List ℕ)) → Waiting q → Enough rounds gs → session rounds q gs ≡ stream q (endToEnd gs))
+        → goOn o c f fs (session rounds) ≡ stream r (f ++ endToEnd fs)
+    go more k again = again (c .leaves) fs (k .1) (omega (arith, length-append f (endToEnd fs))) ∙ sym (k .0)
     go (nak n) k again =
-        ap (andBefore (shown n (c .leaves .window))) (again (c .leaves) (drop (c .taken) f ∷ fs) (k .1) (omega (arith, k .2, length-append f (joined fs), length-append (drop (c .taken) f) (joined fs)))) ∙ sym (k .0)
+        ap (andBefore (shown n (c .leaves .window))) (again (c .leaves) (drop (c .taken) f ∷ fs) (k .1) (omega (arith, k .2, length-append f (endToEnd fs), length-append (drop (c .taken) f) (endToEnd fs)))) ∙ sym (k .0)
     go (refusal ns) k again = sym k
 
 pub however-cut : HoweverCut

@@ -14,14 +14,12 @@ use Rattle.header.proofs.Verifying.{at-least}
 use Rattle.nak.specs.declared.Nak.{Nak}
 use Rattle.nak.specs.Reading.{readingNak}
 use Rattle.nak.specs.Requests.{areaOf, pairsOf}
-use Rattle.nak.specs.Writing.{nakBytes}
-use Rattle.nak.specs.Demands.{ReadsBack}
-use Rattle.nak.proofs.Writing.{to-write}
-use Rattle.nak.proofs.RoundTrip.{written-reads-back}
-use Rattle.nak.proofs.Streams.{nak-long, same-area, written-length, written-there}
+use Rattle.nak.specs.Archive.{Archived, bytesOf, contentsOf, endToEnd, archive}
+use Rattle.nak.proofs.Streams.{nak-long, same-area}
+use Rattle.nak.proofs.Archive.{turns-length, archived-back, archived-length}
 use Rattle.receiver.specs.Receiving.{windowLength, receiving, fresh, status, put, begun, stateOf}
 use Rattle.receiver.specs.Within.{capped}
-use Rattle.receiver.specs.Demands.{Given, shown, andBefore, session, joined, AllGiven, Written, bytesOf, asked, WrittenAreGiven, Pdu, LaidEndToEnd}
+use Rattle.receiver.specs.Demands.{Given, shown, andBefore, session, AllGiven, Written, asked, WrittenAreGiven, Pdu, LaidEndToEnd}
 use Rattle.receiver.proofs.Reading.{capped-reading, receiving-demand3}
 use Rattle.receiver.proofs.Given.{read-again}
 use Rattle.receiver.proofs.Cutting.{stream, byStatus, fresh-waits, hears}
@@ -94,66 +92,56 @@ given-behind (x ∷ y ∷ s) pre w at n g z k p l e whole holds =
 -- ---- PDU behind PDU
 
 abbrev allBytes : List Pdu → List ℕ
-allBytes ps = joined (map (λ (p : Pdu). p .bytes) ps)
+allBytes ps = endToEnd (map (λ (p : Pdu). p .bytes) ps)
 
 abbrev allShown : List Pdu → List Given
-allShown ps = map (λ (p : Pdu). shown (p .nak) (p .bytes)) ps
+allShown ps = map (λ (p : Pdu). shown (p .whole .nak) (p .bytes)) ps
 
 all-given : (ps : List Pdu) (w : List ℕ) → length w ≡ windowLength → AllGiven (allShown ps) (stream (stateOf w 0) (allBytes ps))
 all-given [] w k = record { naks = refl; ends = refl; begins = refl }
 all-given (p ∷ ps) w k =
-    let b = given-behind (p .bytes) [] w 0 (p .nak) (allBytes ps) (omega (arith, at-least (p .nak .header) (length (p .bytes)) (p .whole))) k refl refl (p .read) (p .whole) (p .holds) in
+    let b = given-behind (p .bytes) [] w 0 (p .whole .nak) (allBytes ps) (omega (arith, at-least (p .whole .nak .header) (length (p .bytes)) (p .whole .ends))) k refl refl (p .whole .read) (p .whole .ends) (p .holds) in
     let rest = all-given ps (b .window) (b .same) in
     subst (AllGiven (allShown (p ∷ ps))) (sym (b .is))
-    record { naks = ap (λ (ns : List Given). shown (p .nak) (p .bytes) ∷ ns) (rest .naks); ends = rest .ends; begins = rest .begins }
+    record { naks = ap (λ (ns : List Given). shown (p .whole .nak) (p .bytes) ∷ ns) (rest .naks); ends = rest .ends; begins = rest .begins }
 
 pub laid-end-to-end : LaidEndToEnd
 unfolding fresh
 laid-end-to-end ps fs m e h =
     subst (AllGiven (allShown ps)) (sym (hears m fresh fs fresh-waits h ∙ ap (stream fresh) e)) (all-given ps (fresh .window) (length-replicate {A = ℕ} windowLength 0))
 
--- ---- of what the writer wrote
+-- ---- of what was written
 
 module _ (w : Written) where
-  abbrev N : List ℕ
-  N = nakBytes (w .written .header) (w .start) (w .end) (w .numbers)
+  abbrev k : Archived
+  k = w .nak
 
-  back : ReadsBack (w .written .header) (w .start) (w .end) (w .numbers) (N ++ [])
-  back = written-reads-back (w .file) (w .header) (w .start) (w .end) (length (w .buffer)) (w .numbers) [] (w .written) (w .scope-lent) (w .lent) (w .accepts)
+  abbrev given : Given
+  given = asked (contentsOf k)
 
-  there : bytesOf w ≡ N
-  there = written-there (w .file) (w .header) (w .start) (w .end) (w .numbers) (w .written) (w .buffer) (w .accepts)
+  alone : bytesOf k ++ [] ≡ bytesOf k
+  alone = append-nil (bytesOf k)
 
-  as-read : N ++ [] ≡ bytesOf w
-  as-read = append-nil N ∙ sym there
-
-  so-long : length (bytesOf w) ≡ w .written .length
-  so-long = ap length there ∙ written-length (w .file) (w .header) (w .start) (w .end) (w .numbers) (w .written) (length (w .buffer)) (w .accepts)
+  reads : run readingNak (bytesOf k) ≡ accepted (given .nak)
+  reads = rw (turns-length (k .numbers)) (ap (run readingNak) (sym alone) ∙ archived-back k [] .read)
 
   pduOf : Pdu
-  pduOf =
-      record {
-        bytes = bytesOf w;
-        nak = asked w .nak;
-        read = ap (run readingNak) (sym as-read) ∙ back .read;
-        whole = so-long ∙ to-write (w .file) (w .header) (w .start) (w .end) (length (w .numbers)) (length (w .buffer)) (w .written) (sym (w .accepts)) .length-is;
-        holds = subst (λ (n : ℕ). n ≤ windowLength) (sym so-long) (w .holds);
-      }
+  pduOf = record { bytes = bytesOf k; whole = record { nak = given .nak; read = reads; ends = archived-length k }; holds = w .holds }
 
-  shows-asked : shown (asked w .nak) (bytesOf w) ≡ asked w
-  shows-asked =
-      let n = asked w .nak in
-      ap (λ (rs : List (ℕ × ℕ)). record { nak = n; requests = rs }) (ap (λ (x : List ℕ). pairsOf (n .header .file) (areaOf n x)) (sym as-read) ∙ back .pairs)
+  shows : shown (given .nak) (bytesOf k) ≡ given
+  shows =
+      let pairs : pairsOf (given .nak .header .file) (areaOf (given .nak) (bytesOf k)) ≡ given .requests = rw (turns-length (k .numbers), ← alone) (archived-back k [] .pairs) in
+      ap (λ (rs : List (ℕ × ℕ)). record { nak = given .nak; requests = rs }) pairs
 
-written-bytes : (ws : List Written) → allBytes (map pduOf ws) ≡ joined (map bytesOf ws)
+written-bytes : (ws : List Written) → allBytes (map pduOf ws) ≡ archive (map (λ (w : Written). w .nak) ws)
 unfolding pduOf
 written-bytes [] = refl
-written-bytes (w ∷ ws) = ap (λ (x : List ℕ). bytesOf w ++ x) (written-bytes ws)
+written-bytes (w ∷ ws) = ap (λ (x : List ℕ). bytesOf (w .nak) ++ x) (written-bytes ws)
 
-written-shown : (ws : List Written) → allShown (map pduOf ws) ≡ map asked ws
+written-shown : (ws : List Written) → allShown (map pduOf ws) ≡ map given ws
 unfolding pduOf
 written-shown [] = refl
-written-shown (w ∷ ws) = ap₂ (λ (x : Given) (xs : List Given). x ∷ xs) (shows-asked w) (written-shown ws)
+written-shown (w ∷ ws) = ap₂ (λ (x : Given) (xs : List Given). x ∷ xs) (shows w) (written-shown ws)
 
 pub written-are-given : WrittenAreGiven
 written-are-given ws fs m e h = subst (λ (ns : List Given). AllGiven ns (session m fresh fs)) (written-shown ws) (laid-end-to-end (map pduOf ws) fs m (e ∙ sym (written-bytes ws)) h)

@@ -1,21 +1,16 @@
 -- What is proved beyond the promises: 'however the stream is cut, repeated calls until every fragment is used, or one is refused, give the same NAKs, refusal and end state'; that written NAKs are all given; and what the waiting costs.
-use Prim.Native.Nat.{ℕ, zero, suc, _+_, _/_, _≤_, _<_}
+use Prim.Native.Nat.{ℕ, zero, suc, _+_, _≤_, _<_}
 use mathlib.Core.Path.{_≡_}
-use mathlib.Core.List.{List, [], _∷_, _++_, map}
-use lib.ListN.{length, getD, take, drop}
+use mathlib.Core.List.{List, [], _∷_, map}
+use lib.ListN.{length, getD, drop}
 use Rattle.fields.specs.Answer.{accepted}
 use Rattle.fields.specs.Staged.{run}
 use Rattle.fields.specs.Demand3.{Demand3}
-use Rattle.header.specs.declared.PduHeader.{PduHeader}
-use Rattle.header.specs.declared.flags.LargeFileFlag.{LargeFileFlag}
-use Rattle.header.specs.declared.pdu.PduWritten.{PduWritten}
-use Rattle.header.specs.Header.{pduLength}
-use Rattle.header.specs.Size.{sizeWidth}
 use Rattle.nak.specs.declared.Nak.{Nak}
 use Rattle.nak.specs.Reading.{readingNak}
 use Rattle.nak.specs.Requests.{areaOf, pairsOf}
-use Rattle.nak.specs.Writing.{writingNak, nakMemory}
-use Rattle.nak.specs.Demands.{byTurns, Lent, readAs}
+use Rattle.nak.specs.Demands.{readAs}
+use Rattle.nak.specs.Archive.{Contents, Archived, bytesOf, contentsOf, endToEnd, archive, Whole}
 use Rattle.receiver.specs.declared.Receiver.{Receiver}
 use Rattle.receiver.specs.declared.Received.{Received}
 use Rattle.receiver.specs.declared.Taken.{Taken}
@@ -53,17 +48,12 @@ session zero r fs = record { naks = []; ends = more; leaves = r }
 session (suc rounds) r [] = record { naks = []; ends = more; leaves = r }
 session (suc rounds) r (f ∷ fs) = goOn (call r f .gives) (call r f) f fs (session rounds)
 
--- the stream of which those are the fragments
-abbrev pub joined : List (List ℕ) → List ℕ
-joined [] = []
-joined (f ∷ fs) = f ++ joined fs
-
--- a call for each fragment and one for each byte are enough
+-- the stream is its fragments end to end: a call for each of them and one for each byte are enough
 abbrev pub Enough : ℕ → List (List ℕ) → Type 0
-Enough rounds fs = length fs + length (joined fs) < rounds
+Enough rounds fs = length fs + length (endToEnd fs) < rounds
 
 abbrev pub HoweverCut : Type 0
-HoweverCut = (fs gs : List (List ℕ)) (m n : ℕ) → joined fs ≡ joined gs → Enough m fs → Enough n gs → session m fresh fs ≡ session n fresh gs
+HoweverCut = (fs gs : List (List ℕ)) (m n : ℕ) → endToEnd fs ≡ endToEnd gs → Enough m fs → Enough n gs → session m fresh fs ≡ session n fresh gs
 
 -- ---- 'a stream of NAKs laid end to end'
 
@@ -73,44 +63,31 @@ pub record AllGiven (ns : List Given) (h : Heard) : Type 0 where
   pub ends : h .ends ≡ more
   pub begins : h .leaves .filled ≡ 0
 
--- a NAK that the writer accepted and the window holds
+-- a NAK that was written, as C-14 has it, and that the window holds
 pub record Written : Type 0 where
-  pub file : LargeFileFlag
-  pub header : PduHeader
-  pub start : ℕ
-  pub end : ℕ
-  pub numbers : List ℕ
-  pub buffer : List ℕ
-  pub written : PduWritten
-  pub scope-lent : Lent 8 (start ∷ end ∷ [])
-  pub lent : Lent (sizeWidth file) numbers
-  pub accepts : writingNak file header start end (length numbers) (length buffer) ≡ accepted written
-  pub holds : written .length ≤ windowLength
+  pub nak : Archived
+  pub holds : length (bytesOf nak) ≤ windowLength
 
--- its bytes: so many as the writer says, of the buffer that it left
-abbrev pub bytesOf : Written → List ℕ
-bytesOf w = take (w .written .length) (nakMemory (w .file) (w .header) (w .start) (w .end) (w .numbers) (w .buffer))
-
--- what was written: the header handed back, the scope, and the pairs
-abbrev pub asked : Written → Given
-asked w = record { nak = readAs (w .written .header) (w .start) (w .end) (length (w .numbers) / 2); requests = byTurns (w .numbers) }
+-- the NAK that holds c, as it is given: the header handed back, the scope, and the pairs
+abbrev pub asked : Contents → Given
+asked c = record { nak = readAs (c .header) (c .start) (c .end) (length (c .pairs)); requests = c .pairs }
 
 -- written NAKs, laid end to end and cut anywhere, are all given
 abbrev pub WrittenAreGiven : Type 0
-WrittenAreGiven = (ws : List Written) (fs : List (List ℕ)) (m : ℕ) → joined fs ≡ joined (map bytesOf ws) → Enough m fs → AllGiven (map asked ws) (session m fresh fs)
+WrittenAreGiven =
+    (ws : List Written) (fs : List (List ℕ)) (m : ℕ) → endToEnd fs ≡ archive (map (λ (w : Written). w .nak) ws) → Enough m fs
+    → AllGiven (map (λ (w : Written). asked (contentsOf (w .nak))) ws) (session m fresh fs)
 
--- the same of NAKs from anywhere: a PDU that the window holds, with nothing behind it, and the NAK that is read from it
+-- the same of NAKs from anywhere: whole, as C-14 has it, and the window holds their bytes
 pub record Pdu : Type 0 where
   pub bytes : List ℕ
-  pub nak : Nak
-  pub read : run readingNak bytes ≡ accepted nak
-  pub whole : length bytes ≡ pduLength (nak .header)
+  pub whole : Whole bytes
   pub holds : length bytes ≤ windowLength
 
 abbrev pub LaidEndToEnd : Type 0
 LaidEndToEnd =
-    (ps : List Pdu) (fs : List (List ℕ)) (m : ℕ) → joined fs ≡ joined (map (λ (p : Pdu). p .bytes) ps) → Enough m fs
-    → AllGiven (map (λ (p : Pdu). shown (p .nak) (p .bytes)) ps) (session m fresh fs)
+    (ps : List Pdu) (fs : List (List ℕ)) (m : ℕ) → endToEnd fs ≡ endToEnd (map (λ (p : Pdu). p .bytes) ps) → Enough m fs
+    → AllGiven (map (λ (p : Pdu). shown (p .whole .nak) (p .bytes)) ps) (session m fresh fs)
 
 -- ---- what a call gives
 
