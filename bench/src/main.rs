@@ -6,6 +6,7 @@ mod metadata;
 mod nak;
 mod owed;
 mod plan;
+mod ranges;
 mod stream;
 mod timing;
 mod typed;
@@ -38,8 +39,13 @@ fn main() {
         metadata::metadata(crc, 0, about);
         metadata::metadata(crc, 8, &format!(" with 8 options{about}"));
     }
-    differ::row_of(1000);
-    owed::row_of(20);
+    for pairs in [10, 100, 1000, 8190] {
+        differ::row_of(pairs);
+    }
+    // So many pairs a NAK, and so many times the log.
+    for (pairs, times) in [(2, 1), (10, 1), (20, 1), (20, 10)] {
+        owed::row_of(pairs, times);
+    }
     for missing in [100, 1000, 8190] {
         plan::plans(missing);
     }
