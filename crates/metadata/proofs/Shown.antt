@@ -7,11 +7,11 @@ use mathlib.Core.Logic.{⊎-elim}
 use mathlib.Core.List.{List, [], _∷_}
 use native.Mathlib.Omega.{arith}
 use lib.ListN.{length, take, drop, length-drop}
-use lib.Seq.{drop-drop, take-all, getD-drop}
+use lib.Seq.{drop-drop, take-all}
 use Rattle.fields.specs.BigEndian.{Bytes}
 use Rattle.fields.specs.Answer.{accepted, firstOf}
 use Rattle.fields.specs.Staged.{run}
-use Rattle.fields.proofs.BigEndian.{part-take, bytes-take}
+use Rattle.fields.proofs.BigEndian.{part-take, bytes-take, bytes-drop}
 use Rattle.fields.proofs.Judging.{Passed, passed}
 use Rattle.fields.proofs.Staged.{both, run-tests}
 use Rattle.header.specs.declared.PduHeader.{PduHeader}
@@ -44,9 +44,6 @@ part-in s c from n a b e l ab bn =
     ∙ ap₂ (λ (i : ℕ) (x : List ℕ). take i x) size (sym (drop-drop a from s))
     ∙ sym (part-take (drop from s) n a (b - a) (omega arith))
     ∙ ap (λ (x : List ℕ). take (b - a) (drop a x)) e
-
-bytes-drop : (n : ℕ) (s : List ℕ) → Bytes s → Bytes (drop n s)
-bytes-drop n s b i = rw (getD-drop n s i 0) (b (n + i))
 
 -- ---- what an accepted PDU is
 
