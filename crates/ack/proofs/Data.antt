@@ -58,7 +58,8 @@ module _ (h : PduHeader) (c : List ℕ) (stop a : ℕ) (pe : stop ≡ dataEnd h)
     pub ack-refused : (ns : List ℕ) → told ns ≡ allOf codes → told ns ≡ answer
     ack-refused ns e = refused-after there codes reaches (ackIn h c) tt ns e ∙ in-order
 
-    pub ack-read : (t : TransactionStatus) → accepted tt ≡ allOf codes → t ≡ statusIn c → accepted (record { header = h; acked = ackedIn c; condition = conditionIn c; status = t }) ≡ answer
+    pub ack-read : (t : TransactionStatus) → accepted tt ≡ allOf codes → t ≡ statusIn c
+        → accepted (record { header = h; acked = ackedIn c; condition = conditionIn c; status = t }) ≡ answer
     unfolding ackIn
     ack-read t q e = rw e (passed-after there codes reaches (ackIn h c) (judged-passed codes q) ∙ in-order)
 
@@ -78,7 +79,8 @@ module _ (a : Ack) where
   unfolding ownTests
   bad-codes ns e = refused-same ns (codeTests (a .condition) (a .acked)) tt (ackLength a) e
 
-  pub good-codes : (b : ℕ) → accepted tt ≡ allOf (codeTests (a .condition) (a .acked)) → b ≡ crcBit (a .header .crc) → accepted (3 + 2 * b) ≡ firstOf (ownTests a) (ackLength a)
+  pub good-codes : (b : ℕ) → accepted tt ≡ allOf (codeTests (a .condition) (a .acked)) → b ≡ crcBit (a .header .crc)
+      → accepted (3 + 2 * b) ≡ firstOf (ownTests a) (ackLength a)
   unfolding ownTests ackLength
   good-codes b e p = let ts = codeTests (a .condition) (a .acked) in rw p (sym (all-passed ts (ackLength a) (judged-passed ts e)))
 
@@ -136,14 +138,17 @@ status-is : (a : Ack) → statusIn (ackData a) ≡ a .status
 unfolding ackData
 status-is a = status-back (a .status) (a .condition)
 
-pub reads-back : (a : Ack) (k : PduHeader) (t : List ℕ) → Passed (ownTests a) → k ≡ filled a → Passed (directiveTests k) → run readingAck (pduOver k (ackData a) ++ t) ≡ accepted (under k a)
+pub reads-back : (a : Ack) (k : PduHeader) (t : List ℕ) → Passed (ownTests a) → k ≡ filled a → Passed (directiveTests k)
+    → run readingAck (pduOver k (ackData a) ++ t) ≡ accepted (under k a)
 unfolding readingAck ownTests
 reads-back a k t good pk ok =
     let c = ackData a in
     let l : 3 ≤ length c = omega (arith, data-size a) in
     let sz : headerLength k + length c ≡ dataEnd k = omega (arith, filled-length a k pk, pdu-sum k, end-sum k) in
     let there : accepted tt ≡ allOf (dataShort (dataEnd k) (headerLength k + 3) ∷ []) = data-reaches (dataEnd k) (headerLength k + 3) (omega arith) in
-    let codes : allOf (codeTests (conditionIn c) (ackedIn c)) ≡ accepted tt = ap₂ (λ (x y : ℕ). allOf (codeTests x y)) (condition-back a) (acked-back a) ∙ all-passed (codeTests (a .condition) (a .acked)) tt good in
+    let codes : allOf (codeTests (conditionIn c) (ackedIn c)) ≡ accepted tt = ap₂ (λ (x y : ℕ). allOf (codeTests x y)) (condition-back a)
+    (acked-back a)
+    ∙ all-passed (codeTests (a .condition) (a .acked)) tt good in
     reads-content k c t ok (filled-length a k pk) (omega arith) (rw pk (filled-small a)) 6 (known-range 6 (omega arith) (omega arith)) (first-is a) readTests ackIn
     ∙ sym (ack-read k c (dataEnd k) (headerLength k) refl refl there (statusIn c) (sym codes) refl)
     ∙ ap accepted (λ i. record { header = k; acked = acked-back a i; condition = condition-back a i; status = status-is a i })

@@ -42,4 +42,5 @@ pub code-reads-back : CodeReadsBack
 unfolding writingAck ackMemory
 code-reads-back a s w r p q =
     let m = memory-has (filled a) (ownTests a) (ackData a) s w p in
-    one-ack-result r (Read (under (w .header) a)) (q ∙ ap (run readingAck) m ∙ written-reads-back a (length s) (drop (length (pduOver (w .header) (ackData a))) s) w p)
+    one-ack-result r (Read (under (w .header) a))
+    (q ∙ ap (run readingAck) m ∙ written-reads-back a (length s) (drop (length (pduOver (w .header) (ackData a))) s) w p)

@@ -101,7 +101,8 @@ none-compared r q o f s out e first p =
     (first ∙ ap (λ (x : Answer Bool). andThen (run readingNak s) (λ _. x)) (sym (told-on (paper q) f) ∙ ap (λ (x : Answer PduHeader). andThen x f) e))
     p
 
-pub given-compared : (file : PduHeader → LargeFileFlag) (h : PduHeader) (start end : ℕ) (numbers s : List ℕ) (o : Answer PduHeader) (out : List ℕ) → accepted h ≡ o
+pub given-compared : (file : PduHeader → LargeFileFlag) (h : PduHeader) (start end : ℕ) (numbers s : List ℕ) (o : Answer PduHeader) (out : List ℕ)
+    → accepted h ≡ o
     → out ≡ shown verdictNumber (comparing (file h) h start end numbers s)
     → out ≡ shown verdictNumber (comparingFrom o (λ k. comparing (file k) k start end numbers s) s)
 given-compared file h start end numbers s o out e p =

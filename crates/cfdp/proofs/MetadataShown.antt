@@ -19,9 +19,11 @@ pub metadata-numbers : (m : Metadata) (b : ℕ) (out : List ℕ) → b ≡ closu
     → set (set (set (set out 20 (m .destination .start)) 21 (m .destination .stop)) 22 (m .options .start)) 23 (m .options .stop) ≡ padded answerSize (0 ∷ metadataNumbers m)
 metadata-numbers m b out pb p =
     ap (λ (x : List ℕ). set (set (set (set x 20 (m .destination .start)) 21 (m .destination .stop)) 22 (m .options .start)) 23 (m .options .stop)) p
-    ∙ ap (λ (i : ℕ). padded answerSize (0 ∷ (headerNumbers (m .params .header) ++ (i ∷ m .params .kind ∷ m .params .size ∷ (partNumbers (m .source) ++ (partNumbers (m .destination) ++ partNumbers (m .options))))))) pb
+    ∙ ap
+    (λ (i : ℕ). padded answerSize (0 ∷ (headerNumbers (m .params .header) ++ (i ∷ m .params .kind ∷ m .params .size ∷ (partNumbers (m .source) ++ (partNumbers (m .destination) ++ partNumbers (m .options))))))) pb
 
-pub option-numbers : (tag start stop next : ℕ) (out : List ℕ) → out ≡ padded answerSize (0 ∷ tag ∷ start ∷ []) → set (set out 3 stop) 4 next ≡ padded answerSize (0 ∷ tag ∷ start ∷ stop ∷ next ∷ [])
+pub option-numbers : (tag start stop next : ℕ) (out : List ℕ) → out ≡ padded answerSize (0 ∷ tag ∷ start ∷ [])
+    → set (set out 3 stop) 4 next ≡ padded answerSize (0 ∷ tag ∷ start ∷ stop ∷ next ∷ [])
 option-numbers tag start stop next out p = ap (λ (x : List ℕ). set (set x 3 stop) 4 next) p
 
 module _ (k : NextField) (out : List ℕ) where

@@ -50,8 +50,10 @@ module _ (large : Bool) (a : List ℕ) (i : ℕ) where
       → (r .there ≡ isPair large a i) × (r .start ∷ r .end ∷ [] ≡ pairAt large a i)
   no-pair size r es l e =
       let n : length (pairsIn large a) ≡ length a / size = pairs-count (fileIf large) a ∙ ap (λ (k : ℕ). length a / k) (sym es) in
-      let l′ : length (pairsIn large a) ≤ i = omega arith in
-      (ap (λ (f : Found). f .there) e ∙ sym (le-ltb _ _ l′), ap (λ (f : Found). f .start ∷ f .end ∷ []) e ∙ ap (λ (p : ℕ × ℕ). p .0 ∷ p .1 ∷ []) (sym (List·getD-eq-default (pairsIn large a) (0, 0) l′)))
+      let l′ : length (pairsIn large a) ≤ i = omega arith in (
+        ap (λ (f : Found). f .there) e ∙ sym (le-ltb _ _ l′),
+        ap (λ (f : Found). f .start ∷ f .end ∷ []) e ∙ ap (λ (p : ℕ × ℕ). p .0 ∷ p .1 ∷ []) (sym (List·getD-eq-default (pairsIn large a) (0, 0) l′)),
+      )
 
   module _ (size : ℕ) (es : size ≡ pairSize (fileIf large)) (h : i < length a / size) where
     below : i < length a / pairSize (fileIf large)
@@ -68,23 +70,33 @@ module _ (large : Bool) (a : List ℕ) (i : ℕ) where
     at-pair : getD (pairsIn large a) i (0, 0) ≡ pairOf width a (i * size)
     at-pair =
         let e : 0 + i * pairSize (fileIf large) ≡ i * size = omega (arith, ap (λ (k : ℕ). i * k) es) in
-        ap (λ (ps : List (ℕ × ℕ)). getD ps i (0, 0)) (pairs-are (fileIf large) a) ∙ pairs-at width a 0 (length a / pairSize (fileIf large)) i below ∙ ap (pairOf width a) e
+        ap (λ (ps : List (ℕ × ℕ)). getD ps i (0, 0)) (pairs-are (fileIf large) a)
+        ∙ pairs-at width a 0 (length a / pairSize (fileIf large)) i below
+        ∙ ap (pairOf width a) e
 
     -- in these bytes the cursor shows it
-    shows : (file : LargeFileFlag) → file ≡ fileIf large → nextRequest part file 0 ≡ Pair (numberAt a (i * size) width) (numberAt a (i * size + width) width) (record { at = 0 + pairSize (fileIf large) })
+    shows : (file : LargeFileFlag) → file ≡ fileIf large
+        → nextRequest part file 0 ≡ Pair (numberAt a (i * size) width) (numberAt a (i * size + width) width) (record { at = 0 + pairSize (fileIf large) })
     shows file e =
         let k : i * size + size - i * size ≡ size = omega arith in
-        let l : 0 + pairSize (fileIf large) ≤ length part = omega (arith, es, whole-pair (length a) size i h, length-take (i * size + size - i * size) (drop (i * size) a), length-drop (i * size) a) in
-        let p : numberAt part 0 width ≡ numberAt a (i * size) width = number-part a (i * size) (i * size + size - i * size) 0 width (omega (arith, es)) ∙ ap (λ (m : ℕ). numberAt a m width) (add-zero (i * size)) in
-        let q : numberAt part (0 + width) width ≡ numberAt a (i * size + width) width = number-part a (i * size) (i * size + size - i * size) (0 + width) width (omega (arith, es)) ∙ ap (λ (m : ℕ). numberAt a (i * size + m) width) (zero-add width) in
+        let l : 0 + pairSize (fileIf large) ≤ length part = omega
+        (arith, es, whole-pair (length a) size i h, length-take (i * size + size - i * size) (drop (i * size) a), length-drop (i * size) a) in
+        let p : numberAt part 0 width ≡ numberAt a (i * size) width = number-part a (i * size) (i * size + size - i * size) 0 width
+        (omega (arith, es))
+        ∙ ap (λ (m : ℕ). numberAt a m width) (add-zero (i * size)) in
+        let q : numberAt part (0 + width) width ≡ numberAt a (i * size + width) width = number-part a (i * size) (i * size + size - i * size)
+        (0 + width) width (omega (arith, es))
+        ∙ ap (λ (m : ℕ). numberAt a (i * size + m) width) (zero-add width) in
         ap (λ (f : LargeFileFlag). nextRequest part f 0) e ∙ shows-pair part (fileIf large) 0 l ∙ rw (p, q)
 
-    pub found-pair : (file : LargeFileFlag) (x y : ℕ) (next : RequestCursor) → file ≡ fileIf large → Pair x y next ≡ nextRequest part file 0 → (true ≡ isPair large a i) × (x ∷ y ∷ [] ≡ pairAt large a i)
+    pub found-pair : (file : LargeFileFlag) (x y : ℕ) (next : RequestCursor) → file ≡ fileIf large → Pair x y next ≡ nextRequest part file 0
+        → (true ≡ isPair large a i) × (x ∷ y ∷ [] ≡ pairAt large a i)
     found-pair file x y next e q =
         let n = pairs-count (fileIf large) a in
         let b = below in
         let l : i < length (pairsIn large a) = omega arith in
-        let s : Pair x y next ≡ Pair (numberAt a (i * size) width) (numberAt a (i * size + width) width) (record { at = 0 + pairSize (fileIf large) }) = q ∙ shows file e in
+        let s : Pair x y next ≡ Pair (numberAt a (i * size) width) (numberAt a (i * size + width) width) (record { at = 0 + pairSize (fileIf large) }) = q
+        ∙ shows file e in
         let p : x ≡ numberAt a (i * size) width = cc in
         let p′ : y ≡ numberAt a (i * size + width) width = cc in
         (sym (lt-ltb _ _ l), ap₂ (λ (u v : ℕ). u ∷ v ∷ []) p p′ ∙ ap (λ (r : ℕ × ℕ). r .0 ∷ r .1 ∷ []) (sym at-pair))
@@ -92,7 +104,8 @@ module _ (large : Bool) (a : List ℕ) (i : ℕ) where
     -- and so not the end
     pub not-end : (file : LargeFileFlag) → file ≡ fileIf large → End ≡ nextRequest part file 0 → ⊥
     not-end file e q =
-        let s : End ≡ Pair (numberAt a (i * size) width) (numberAt a (i * size + width) width) (record { at = 0 + pairSize (fileIf large) }) = q ∙ shows file e in
+        let s : End ≡ Pair (numberAt a (i * size) width) (numberAt a (i * size + width) width) (record { at = 0 + pairSize (fileIf large) }) = q
+        ∙ shows file e in
         let z : _≡_ {A = ℕ} 0 1 = cc in
         omega arith
 
@@ -115,7 +128,8 @@ module _ (ps : List (ℕ × ℕ)) (room i : ℕ) (l : List ℕ) where
       rw (drop-cons (take room ps) i (0, 0) b, getD-take room ps i (0, 0) h, p, p′, e₁, e₂, add-one)
 
 -- no pair is left: all that have room are stored
-pub pairs-done : (qs : List (ℕ × ℕ)) (i : ℕ) (s l : List ℕ) → i ≤ length qs → length qs ≤ i → 2 * length qs ≤ length s → sets l (2 * i) (flat (drop i qs)) ≡ sets s 0 (flat qs)
+pub pairs-done : (qs : List (ℕ × ℕ)) (i : ℕ) (s l : List ℕ) → i ≤ length qs → length qs ≤ i → 2 * length qs ≤ length s
+    → sets l (2 * i) (flat (drop i qs)) ≡ sets s 0 (flat qs)
     → (i ≡ length qs) × (l ≡ flat qs ++ drop (length (flat qs)) s)
 pairs-done qs i s l h k room e =
     let n : i ≡ length qs = omega arith in

@@ -52,7 +52,9 @@ module _ {A : Type 0} (numbers : A → List ℕ) where
   told-shown : (ns : List ℕ) → length ns ≤ 3 → padded answerSize ns ≡ shown numbers (told ns)
   unfolding shown
   told-shown ns l =
-      sym (told-cases (shown numbers) (padded answerSize ns) ns (λ one. sym (few ns l ∙ ap (λ (k : ℕ). padded answerSize (k ∷ getD ns 1 0 ∷ getD ns 2 0 ∷ [])) one)) refl)
+      sym
+      (told-cases (shown numbers) (padded answerSize ns) ns
+      (λ one. sym (few ns l ∙ ap (λ (k : ℕ). padded answerSize (k ∷ getD ns 1 0 ∷ getD ns 2 0 ∷ [])) one)) refl)
 
   -- a refusal is shown by its number and values
   pub refused-shown : (r : Refusal) (o : Answer A) (out : List ℕ) → told (paper r) ≡ o → out ≡ refusalShown r → out ≡ shown numbers o
@@ -65,29 +67,36 @@ module _ {A : Type 0} (numbers : A → List ℕ) where
   accepted-shown a o out e p = p ∙ ap (shown numbers) e
 
 -- the header's numbers, bit by bit
-pub header-numbers : (h : PduHeader) (rest : List ℕ) (t d m c f g s : ℕ) → t ≡ pduTypeBit (h .kind) → d ≡ directionBit (h .direction) → m ≡ modeBit (h .mode) → c ≡ crcBit (h .crc)
+pub header-numbers : (h : PduHeader) (rest : List ℕ) (t d m c f g s : ℕ) → t ≡ pduTypeBit (h .kind) → d ≡ directionBit (h .direction)
+    → m ≡ modeBit (h .mode) → c ≡ crcBit (h .crc)
     → f ≡ fileBit (h .file) → g ≡ controlBit (h .control) → s ≡ metadataBit (h .metadata)
     → _≡_ {A = List ℕ} (t ∷ d ∷ m ∷ c ∷ f ∷ g ∷ s ∷ h .length ∷ h .width ∷ h .source .0 ∷ h .sequence .0 .width ∷ h .sequence .0 .value ∷ h .width ∷ h .destination .0 ∷ rest) (headerNumbers h ++ rest)
 header-numbers h rest t d m c f g s et ed em ec ef eg es = rw (et, ed, em, ec, ef, eg, es)
 
 -- a header that was read is shown with its length
-pub read-header-shown : (h : PduHeader) (n : ℕ) (o : Answer PduHeader) (out : List ℕ) → accepted h ≡ o → n ≡ headerLength h → out ≡ padded answerSize (0 ∷ (headerNumbers h ++ (n ∷ 0 ∷ 0 ∷ 0 ∷ 0 ∷ []))) → out ≡ shown readHeaderNumbers o
+pub read-header-shown : (h : PduHeader) (n : ℕ) (o : Answer PduHeader) (out : List ℕ) → accepted h ≡ o → n ≡ headerLength h
+    → out ≡ padded answerSize (0 ∷ (headerNumbers h ++ (n ∷ 0 ∷ 0 ∷ 0 ∷ 0 ∷ []))) → out ≡ shown readHeaderNumbers o
 read-header-shown h n o out e l p = accepted-shown readHeaderNumbers h o out e (p ∙ ap (λ (k : ℕ). padded answerSize (0 ∷ (headerNumbers h ++ (k ∷ [])))) l)
 
 -- a NAK that was reserved is shown with the length that it will have
-pub reserved-shown : (r : ReservedNak) (n : ℕ) (o : Answer ReservedNak) (out : List ℕ) → accepted r ≡ o → n ≡ pduLength (r .header) → out ≡ padded answerSize (0 ∷ (headerNumbers (r .header) ++ (r .count ∷ r .area ∷ r .stop ∷ n ∷ 0 ∷ [])))
+pub reserved-shown : (r : ReservedNak) (n : ℕ) (o : Answer ReservedNak) (out : List ℕ) → accepted r ≡ o → n ≡ pduLength (r .header)
+    → out ≡ padded answerSize (0 ∷ (headerNumbers (r .header) ++ (r .count ∷ r .area ∷ r .stop ∷ n ∷ 0 ∷ [])))
     → out ≡ shown reservedNumbers o
-reserved-shown r n o out e l p = accepted-shown reservedNumbers r o out e (p ∙ ap (λ (k : ℕ). padded answerSize (0 ∷ (headerNumbers (r .header) ++ (r .count ∷ r .area ∷ r .stop ∷ k ∷ [])))) l)
+reserved-shown r n o out e l p =
+    accepted-shown reservedNumbers r o out e
+    (p ∙ ap (λ (k : ℕ). padded answerSize (0 ∷ (headerNumbers (r .header) ++ (r .count ∷ r .area ∷ r .stop ∷ k ∷ [])))) l)
 
 -- an ACK that was read is shown with its status as a number, and E
 pub ack-shown : (a : Ack) (s n : ℕ) (o : Answer Ack) (out : List ℕ) → accepted a ≡ o → s ≡ statusBits (a .status) → n ≡ dataEnd (a .header)
     → out ≡ padded answerSize (0 ∷ (headerNumbers (a .header) ++ (a .acked ∷ a .condition ∷ s ∷ n ∷ 0 ∷ []))) → out ≡ shown ackNumbers o
 ack-shown a s n o out e ps pn p =
-    accepted-shown ackNumbers a o out e (p ∙ ap₂ (λ (i j : ℕ). padded answerSize (0 ∷ (headerNumbers (a .header) ++ (a .acked ∷ a .condition ∷ i ∷ j ∷ [])))) ps pn)
+    accepted-shown ackNumbers a o out e
+    (p ∙ ap₂ (λ (i j : ℕ). padded answerSize (0 ∷ (headerNumbers (a .header) ++ (a .acked ∷ a .condition ∷ i ∷ j ∷ [])))) ps pn)
 
 -- an EOF's last two numbers are stored behind the others
 pub eof-numbers : (e : Eof) (t w v n : ℕ) (b : List ℕ) → t ∷ w ∷ v ∷ [] ≡ faultNumbers (e .fault) → n ≡ dataEnd (e .header)
     → b ≡ padded answerSize (0 ∷ (headerNumbers (e .header) ++ (e .condition ∷ e .«file_checksum» ∷ e .size ∷ t ∷ w ∷ []))) → set (set b 20 v) 21 n ≡ padded answerSize (0 ∷ eofNumbers e)
 eof-numbers e t w v n b pf pn p =
     ap (λ (x : List ℕ). set (set x 20 v) 21 n) p
-    ∙ ap₂ (λ (fs : List ℕ) (i : ℕ). padded answerSize (0 ∷ (headerNumbers (e .header) ++ (e .condition ∷ e .«file_checksum» ∷ e .size ∷ (fs ++ (i ∷ [])))))) pf pn
+    ∙ ap₂
+    (λ (fs : List ℕ) (i : ℕ). padded answerSize (0 ∷ (headerNumbers (e .header) ++ (e .condition ∷ e .«file_checksum» ∷ e .size ∷ (fs ++ (i ∷ [])))))) pf pn

@@ -15,9 +15,11 @@ module _ (o : Answer (Unit {0}) × ℕ) (at : ℕ) (out : List ℕ) where
   pub refused-standing : (r : Refusal) → (told (paper r), at) ≡ o → out ≡ refusalShown r → set out 3 at ≡ standing o
   unfolding standing
   refused-standing r e p =
-      ap₂ (λ (x : List ℕ) (i : ℕ). set x 3 i) (refused-shown noNumbers r (o .0) out (ap (λ (x : Answer (Unit {0}) × ℕ). x .0) e) p) (ap (λ (x : Answer (Unit {0}) × ℕ). x .1) e)
+      ap₂ (λ (x : List ℕ) (i : ℕ). set x 3 i) (refused-shown noNumbers r (o .0) out (ap (λ (x : Answer (Unit {0}) × ℕ). x .0) e) p)
+      (ap (λ (x : Answer (Unit {0}) × ℕ). x .1) e)
 
   pub ended-standing : (accepted tt, at) ≡ o → out ≡ padded answerSize (0 ∷ 0 ∷ 0 ∷ []) → set out 3 at ≡ standing o
   unfolding standing
   ended-standing e p =
-      ap₂ (λ (x : List ℕ) (i : ℕ). set x 3 i) (accepted-shown noNumbers tt (o .0) out (ap (λ (x : Answer (Unit {0}) × ℕ). x .0) e) p) (ap (λ (x : Answer (Unit {0}) × ℕ). x .1) e)
+      ap₂ (λ (x : List ℕ) (i : ℕ). set x 3 i) (accepted-shown noNumbers tt (o .0) out (ap (λ (x : Answer (Unit {0}) × ℕ). x .0) e) p)
+      (ap (λ (x : Answer (Unit {0}) × ℕ). x .1) e)

@@ -86,7 +86,8 @@ module _ (h : PduHeader) (c : List ℕ) (stop a w : ℕ) (pe : stop ≡ dataEnd 
       pub eof-other : (ns : List ℕ) → told ns ≡ locating Y → told ns ≡ answer
       eof-other ns e = refused-same ns behind (faultOf (afterSize (h .file) c)) (eofIn h c) (e ∙ located) ∙ fault-next
 
-      pub eof-read : (x y : ℕ) (f : FaultLocation) → headerLength h + length c ≡ stop → x ≡ beAt (take (6 - 2) (drop 2 c)) 0 4 → y ≡ beAt (take (6 + w - 6) (drop 6 c)) 0 (sizeWidth (h .file)) → accepted f ≡ locating Y
+      pub eof-read : (x y : ℕ) (f : FaultLocation) → headerLength h + length c ≡ stop → x ≡ beAt (take (6 - 2) (drop 2 c)) 0 4
+          → y ≡ beAt (take (6 + w - 6) (drop 6 c)) 0 (sizeWidth (h .file)) → accepted f ≡ locating Y
           → accepted (record { header = h; condition = conditionIn c; «file_checksum» = x; size = y; fault = f }) ≡ answer
       unfolding eofIn
       eof-read x y f size px py e =
@@ -94,7 +95,9 @@ module _ (h : PduHeader) (c : List ℕ) (stop a w : ℕ) (pe : stop ≡ dataEnd 
           let g = passed behind f (faultOf (afterSize (h .file) c)) (e ∙ located) in
           let qx = px ∙ part-read c 2 4 6 refl (omega arith) (omega arith) in
           let qy = py ∙ part-read c 6 (sizeWidth (h .file)) (6 + w) (ap (λ (n : ℕ). 6 + n) pw) (size-high (h .file)) (omega arith) in
-          ap accepted (λ i. record { header = h; condition = conditionIn c; «file_checksum» = qx i; size = qy i; fault = g .1 i }) ∙ sym (all-passed behind (eofIn h c) (g .0)) ∙ fault-next
+          ap accepted (λ i. record { header = h; condition = conditionIn c; «file_checksum» = qx i; size = qy i; fault = g .1 i })
+          ∙ sym (all-passed behind (eofIn h c) (g .0))
+          ∙ fault-next
 
 pub refused-eof : (s ns : List ℕ) → told ns ≡ run (readingOwn 4) s → told ns ≡ run readingEof s
 unfolding readingEof
@@ -126,7 +129,8 @@ module _ (e : Eof) where
     pub fault-decides : accepted tt ≡ allOf second → allOf (faultTests (e .fault)) ≡ allOf (ownTests e)
     unfolding ownTests
     fault-decides q =
-        sym (passed-on second (faultTests (e .fault)) tt (judged-passed second q)) ∙ sym (passed-on first (second ++ faultTests (e .fault)) tt (judged-passed first p))
+        sym (passed-on second (faultTests (e .fault)) tt (judged-passed second q))
+        ∙ sym (passed-on first (second ++ faultTests (e .fault)) tt (judged-passed first p))
 
   pub no-length : (ns : List ℕ) → told ns ≡ allOf (ownTests e) → told ns ≡ firstOf (ownTests e) (eofLength e)
   no-length ns d = refused-same ns (ownTests e) tt (eofLength e) d

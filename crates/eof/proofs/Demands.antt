@@ -52,4 +52,5 @@ pub code-reads-back : CodeReadsBack
 unfolding writingEof eofMemory
 code-reads-back e s w r small p q =
     let m = memory-has (filled e) (ownTests e) (eofData e) s w p in
-    one-eof-result r (Read (under (w .header) e)) (q ∙ ap (run readingEof) m ∙ written-reads-back e (length s) (drop (length (pduOver (w .header) (eofData e))) s) w small p)
+    one-eof-result r (Read (under (w .header) e))
+    (q ∙ ap (run readingEof) m ∙ written-reads-back e (length s) (drop (length (pduOver (w .header) (eofData e))) s) w small p)

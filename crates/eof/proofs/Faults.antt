@@ -92,7 +92,8 @@ module _ (f : FaultLocation) (t : EntityIdTlv) (p : f ≡ At t) where
   pub length-at : 2 + t .width ≡ faultLength f
   length-at = ap faultLength (sym p)
 
-  pub fault-stored : (s b : List ℕ) (at : ℕ) → at + faultLength f ≤ length s → Passed (faultTests f) → b ≡ numberPut Tlv s at 6 (t .width) (t .id .0) → b ≡ sets s at (faultBytes f)
+  pub fault-stored : (s b : List ℕ) (at : ℕ) → at + faultLength f ≤ length s → Passed (faultTests f) → b ≡ numberPut Tlv s at 6 (t .width) (t .id .0)
+      → b ≡ sets s at (faultBytes f)
   fault-stored s b at room good e =
       let i = sound-id (t .width) (t .id) (rw p at good) in
       let m = width-small (t .width) (i .is-width) in

@@ -350,7 +350,8 @@ then-sets pre xs l n {b} {b′} e p q =
     q ∙ ap₂ (λ (x : List ℕ) (j : ℕ). sets x j xs) p (sym e ∙ sym (zero-add (length pre))) ∙ sym (sets-append pre xs l 0)
 
 -- a number behind bytes that were stored: both are stored
-pub put-behind : (s pre : List ℕ) (at n w v : ℕ) {b b′ : List ℕ} → at + length pre ≡ n → w ≤ 8 → n + w ≤ length s → v < 256 ^ w → b ≡ sets s at pre → b′ ≡ bePut b n w v → b′ ≡ sets s at (pre ++ beBytes w v)
+pub put-behind : (s pre : List ℕ) (at n w v : ℕ) {b b′ : List ℕ} → at + length pre ≡ n → w ≤ 8 → n + w ≤ length s → v < 256 ^ w → b ≡ sets s at pre
+    → b′ ≡ bePut b n w v → b′ ≡ sets s at (pre ++ beBytes w v)
 put-behind s pre at n w v {b} p small room f e q =
     let l : length b ≡ length s = ap length e ∙ length-sets s at pre in
     q ∙ put-sets b n w v small (omega arith) f ∙ ap₂ (λ (x : List ℕ) (j : ℕ). sets x j (beBytes w v)) e (sym p) ∙ sym (sets-append pre (beBytes w v) s at)

@@ -63,7 +63,8 @@ NoneSays n [] = Unit {0}
 NoneSays n (t ∷ ts) = (getD (t .says) 0 0 ≡ n → ⊥) × NoneSays n ts
 
 -- and so it comes from those behind them
-pub said-behind : {A : Type 0} (n : ℕ) (ms : List ℕ) (ts us : List Test) (a : A) → NoneSays n ts → firstOf (ts ++ us) a ≡ refused (n ∷ ms) → Passed ts × (firstOf us a ≡ refused (n ∷ ms))
+pub said-behind : {A : Type 0} (n : ℕ) (ms : List ℕ) (ts us : List Test) (a : A) → NoneSays n ts → firstOf (ts ++ us) a ≡ refused (n ∷ ms)
+    → Passed ts × (firstOf us a ≡ refused (n ∷ ms))
 said-behind n ms [] us a q e = (tt, e)
 said-behind {A} n ms (t ∷ ts) us a q e = go (t .holds) refl e (λ d. said-behind n ms ts us a (q .1) d)
   where
@@ -86,7 +87,8 @@ unfolding told
 told-is-refused n ms e = rw e
 
 -- what is so of both is so of a refusal
-pub told-cases : {A X : Type 0} (f : Answer A → X) (x : X) (ns : List ℕ) → (getD ns 0 0 ≡ 1 → f (short (getD ns 1 0) (getD ns 2 0)) ≡ x) → f (refused ns) ≡ x → f (told ns) ≡ x
+pub told-cases : {A X : Type 0} (f : Answer A → X) (x : X) (ns : List ℕ) → (getD ns 0 0 ≡ 1 → f (short (getD ns 1 0) (getD ns 2 0)) ≡ x)
+    → f (refused ns) ≡ x → f (told ns) ≡ x
 unfolding told
 told-cases f x ns p q = go (eqb (getD ns 0 0) 1) refl
   where
@@ -94,7 +96,8 @@ told-cases f x ns p q = go (eqb (getD ns 0 0) 1) refl
     go true e = p (eqb-true _ _ e)
     go false e = q
 
-pub told-either : {A X : Type 0} (f : Answer A → X) (x : X) (ns : List ℕ) → ((l n : ℕ) → f (short l n) ≡ x) → ((ms : List ℕ) → f (refused ms) ≡ x) → f (told ns) ≡ x
+pub told-either : {A X : Type 0} (f : Answer A → X) (x : X) (ns : List ℕ) → ((l n : ℕ) → f (short l n) ≡ x) → ((ms : List ℕ) → f (refused ms) ≡ x)
+    → f (told ns) ≡ x
 told-either f x ns p q = told-cases f x ns (λ _. p (getD ns 1 0) (getD ns 2 0)) (q ns)
 
 -- no refusal is an acceptance
@@ -190,7 +193,8 @@ pub then-tests : {A B : Type 0} (ts us : List Test) (a : A) (b : B) (f : A → A
 then-tests [] us a b f e = e
 then-tests {A} {B} (t ∷ ts) us a b f e = go (t .holds) (then-tests ts us a b f e)
   where
-    go : (c : Bool) → andThen (firstOf ts a) f ≡ firstOf (ts ++ us) b → andThen (if c then refused (t .says) else firstOf ts a) f ≡ (if c then refused (t .says) else firstOf (ts ++ us) b)
+    go : (c : Bool) → andThen (firstOf ts a) f ≡ firstOf (ts ++ us) b
+        → andThen (if c then refused (t .says) else firstOf ts a) f ≡ (if c then refused (t .says) else firstOf (ts ++ us) b)
     go true r = refl
     go false r = r
 

@@ -34,7 +34,10 @@ part-put s p at w e v pe h k f q =
     let none : drop (0 + length B) X ≡ [] = drop-of-length-le X {i = 0 + length B} (omega arith) in
     let p′ : p ≡ B ++ [] = (rw n at q) ∙ put-sets X 0 w v h (omega arith) f ∙ sets-eq B X 0 (omega arith) ∙ ap (λ (d : List ℕ). B ++ d) none in
     let whole : bePut s at w v ≡ take at s ++ (B ++ drop (at + w) s) =
-    put-sets s at w v h (omega arith) f ∙ sets-eq B s at (omega arith) ∙ ap (λ (m : ℕ). (take at s ++ B) ++ drop (at + m) s) b ∙ append-assoc (take at s) B (drop (at + w) s) in
+    put-sets s at w v h (omega arith) f
+    ∙ sets-eq B s at (omega arith)
+    ∙ ap (λ (m : ℕ). (take at s ++ B) ++ drop (at + m) s) b
+    ∙ append-assoc (take at s) B (drop (at + w) s) in
     ap (λ (x : List ℕ). take at s ++ (x ++ drop (e - at) (drop at s))) p′
     ∙ ap (λ (x : List ℕ). take at s ++ x) (append-assoc B [] (drop (e - at) (drop at s)))
     ∙ ap (λ (m : ℕ). take at s ++ (B ++ drop m (drop at s))) n

@@ -24,7 +24,8 @@ run-bind (refuseIf true ns r) f s = refl
 run-bind (refuseIf false ns r) f s = run-bind r f s
 run-bind (need n next) f s = go (ltb (length s) n) (run-bind (next (take n s)) f s)
   where
-    go : (c : Bool) → run (next (take n s) >>= f) s ≡ andThen (run (next (take n s)) s) (λ a. run (f a) s) → (if c then short (length s) n else run (next (take n s) >>= f) s) ≡ andThen (if c then short (length s) n else run (next (take n s)) s) (λ a. run (f a) s)
+    go : (c : Bool) → run (next (take n s) >>= f) s ≡ andThen (run (next (take n s)) s) (λ a. run (f a) s)
+        → (if c then short (length s) n else run (next (take n s) >>= f) s) ≡ andThen (if c then short (length s) n else run (next (take n s)) s) (λ a. run (f a) s)
     go true e = refl
     go false e = e
 
@@ -42,7 +43,8 @@ told-before ns (refuseIf true ms r) f s e = told-as ns ms e
 told-before ns (refuseIf false ms r) f s e = told-before ns r f s e
 told-before ns (need n next) f s e = go (ltb (length s) n) e (λ d. told-before ns (next (take n s)) f s d)
   where
-    go : (c : Bool) → told ns ≡ (if c then short (length s) n else run (next (take n s) >>= λ a. accept (f a)) s) → (told ns ≡ run (next (take n s) >>= λ a. accept (f a)) s → told ns ≡ run (next (take n s)) s)
+    go : (c : Bool) → told ns ≡ (if c then short (length s) n else run (next (take n s) >>= λ a. accept (f a)) s)
+        → (told ns ≡ run (next (take n s) >>= λ a. accept (f a)) s → told ns ≡ run (next (take n s)) s)
         → told ns ≡ (if c then short (length s) n else run (next (take n s)) s)
     go true d rest = told-short ns (length s) n d
     go false d rest = rest d
@@ -184,7 +186,8 @@ module _ {A : Type 0} where
       (split (length s) n)
 
   -- a reading that agrees with the stages from n bytes on hears at most k refusals from there
-  heard-most : (r : Staged A) (k : ℕ) → AtMost r k → (read : List ℕ → Answer A) (f : ℕ → ℕ) (rounds n : ℕ) → ((m : ℕ) → n ≤ m → read (firsts f m) ≡ run r (firsts f m)) → heard read f rounds n ≤ k
+  heard-most : (r : Staged A) (k : ℕ) → AtMost r k → (read : List ℕ → Answer A) (f : ℕ → ℕ) (rounds n : ℕ)
+      → ((m : ℕ) → n ≤ m → read (firsts f m) ≡ run r (firsts f m)) → heard read f rounds n ≤ k
   heard-most (accept a) k b read f zero n g = zero-le
   heard-most (accept a) k b read f (suc rounds) n g = rw (g n (le-refl n)) zero-le
   heard-most (refuseIf false ns r) k b read f rounds n g = heard-most r k b read f rounds n g

@@ -79,7 +79,8 @@ reached-fewer (refuseIf false ns r) k s l n h e = reached-fewer r k s l n h e
 reached-fewer (need m next) zero s l n h e = absurd h
 reached-fewer {A} (need m next) (suc k) s l n h e = go (ltb (length s) m) e (λ d. reached-fewer (next (take m s)) k s l n (h (take m s)) d)
   where
-    go : (c : Bool) → _≡_ {A = Answer A} (if c then short (length s) m else run (next (take m s)) s) (short l n) → (run (next (take m s)) s ≡ short l n → reached (next (take m s)) s < k)
+    go : (c : Bool) → _≡_ {A = Answer A} (if c then short (length s) m else run (next (take m s)) s) (short l n)
+        → (run (next (take m s)) s ≡ short l n → reached (next (take m s)) s < k)
         → (if c then 0 else suc (reached (next (take m s)) s)) < suc k
     go true d rest = omega arith
     go false d rest = suc-le-suc (rest d)

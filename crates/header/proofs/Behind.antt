@@ -59,7 +59,8 @@ module _ {A : Type 0} (own : ℕ) (ts : PduHeader → List ℕ → List Test) (x
       (at-most-bind (directiveBytes h) (codePart own h) 2 0 (directive-two h) (code-none own h))
       (λ d. tests-none (ts (d .header) (d .content)) (x (d .header) (d .content)))
 
-  pub behind-asks : (m : ℕ) (h : PduHeader) → pduLength h ≤ m → leastLength ≤ m → ((k : PduHeader) (content : List ℕ) → NoneSays 1 (ts k content)) → Asks m (behind h)
+  pub behind-asks : (m : ℕ) (h : PduHeader) → pduLength h ≤ m → leastLength ≤ m → ((k : PduHeader) (content : List ℕ) → NoneSays 1 (ts k content))
+      → Asks m (behind h)
   behind-asks m h l k none =
       asks-bind m (directiveBytes h >>= codePart own h) (next own ts x)
       (asks-bind m (directiveBytes h) (codePart own h) (bytes-ask m h l k) (code-asks own m h))
@@ -76,10 +77,12 @@ module _ {A : Type 0} (own : ℕ) (ts : PduHeader → List ℕ → List Test) (x
     headed-reader =
         run-bind readingHeader behind s
         ∙ go (run readingHeader s)
-        ∙ ap (λ (o : Answer PduRead). andThen o (λ d. run (next own ts x d) s)) (sym (run-bind readingHeader (λ h. directiveBytes h >>= codePart own h) s) ∙ staged own s)
+        ∙ ap (λ (o : Answer PduRead). andThen o (λ d. run (next own ts x d) s))
+        (sym (run-bind readingHeader (λ h. directiveBytes h >>= codePart own h) s) ∙ staged own s)
         ∙ sym (run-bind (readingDirective own) (next own ts x) s)
       where
-        go : (o : Answer PduHeader) → andThen o (λ h. run (behind h) s) ≡ andThen (andThen o (λ h. run (directiveBytes h >>= codePart own h) s)) (λ d. run (next own ts x d) s)
+        go : (o : Answer PduHeader)
+            → andThen o (λ h. run (behind h) s) ≡ andThen (andThen o (λ h. run (directiveBytes h >>= codePart own h) s)) (λ d. run (next own ts x d) s)
         go (accepted h) = run-bind (directiveBytes h >>= codePart own h) (next own ts x) s
         go (short l n) = refl
         go (refused ns) = refl
@@ -99,7 +102,8 @@ module _ {A : Type 0} (own : ℕ) (ts : PduHeader → List ℕ → List Test) (x
         let c = both readingHeader (λ k. directiveBytes k >>= codePart own k) s r (staged own s ∙ b .first) in
         let d = both (directiveBytes (c .mid)) (codePart own (c .mid)) s r (c .second) in
         let same = code-header own (c .mid) (d .mid) s r (d .second) in
-        let last = passed (ts (r .header) (r .content)) a (x (r .header) (r .content)) (sym (b .second) ∙ run-tests (ts (r .header) (r .content)) (x (r .header) (r .content)) s) in
+        let last = passed (ts (r .header) (r .content)) a (x (r .header) (r .content))
+        (sym (b .second) ∙ run-tests (ts (r .header) (r .content)) (x (r .header) (r .content)) s) in
         record {
           header = r .header;
           content = r .content;

@@ -24,7 +24,8 @@ packed x y a b r p q e = go r (eqb a b) e refl
     go false s e f = ne-eqb (x * 2 + a) (y * 2 + b) (λ z. eqb-false x y e (omega arith))
 
 -- byte 0, bit by bit
-in-row : (h : PduHeader) → firstByte h ≡ ((((1 * 2 + pduTypeBit (h .kind)) * 2 + directionBit (h .direction)) * 2 + modeBit (h .mode)) * 2 + crcBit (h .crc)) * 2 + fileBit (h .file)
+in-row : (h : PduHeader)
+    → firstByte h ≡ ((((1 * 2 + pduTypeBit (h .kind)) * 2 + directionBit (h .direction)) * 2 + modeBit (h .mode)) * 2 + crcBit (h .crc)) * 2 + fileBit (h .file)
 unfolding firstByte
 in-row h = omega arith
 

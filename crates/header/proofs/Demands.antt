@@ -125,7 +125,9 @@ named-need-is-enough h room found need e = go (ltb room (headerLength h)) (p .1)
     p : Passed (recordTests h) × (firstOf (noRoom room (headerLength h) ∷ []) (headerLength h) ≡ refused (11 ∷ found ∷ need ∷ []))
     p = said-behind 11 (found ∷ need ∷ []) (recordTests h) (noRoom room (headerLength h) ∷ []) (headerLength h) (no-eleven h) e
 
-    go : (c : Bool) → _≡_ {A = Answer ℕ} (if c then refused (11 ∷ room ∷ headerLength h ∷ []) else accepted (headerLength h)) (refused (11 ∷ found ∷ need ∷ [])) → (found ≡ room) × (writingHeader h need ≡ accepted need)
+    go : (c : Bool)
+        → _≡_ {A = Answer ℕ} (if c then refused (11 ∷ room ∷ headerLength h ∷ []) else accepted (headerLength h)) (refused (11 ∷ found ∷ need ∷ []))
+        → (found ≡ room) × (writingHeader h need ≡ accepted need)
     go true d =
         let f : found ≡ room = cc in
         let n : need ≡ headerLength h = cc in

@@ -181,7 +181,8 @@ directive-is h s p e =
     (k .0, k .1 .1 .1 .1 .1 .1)
 
 -- a PDU whose bytes are good passes, if it is a directive's and holds the code
-pub directive-passes : (h : PduHeader) (s p : List ℕ) → run (pduBytes h) s ≡ accepted p → 9 ≤ length s → 9 ≤ dataEnd h → h .kind ≡ FileDirective → headerLength h + 1 ≤ dataEnd h
+pub directive-passes : (h : PduHeader) (s p : List ℕ) → run (pduBytes h) s ≡ accepted p → 9 ≤ length s → 9 ≤ dataEnd h → h .kind ≡ FileDirective
+    → headerLength h + 1 ≤ dataEnd h
     → run (directiveBytes h) s ≡ accepted p
 unfolding directiveBytes directivePart
 directive-passes h s p e long e9 kind code =
@@ -291,7 +292,8 @@ pub record OwnRead (h : PduHeader) (s : List ℕ) (stop a : ℕ) : Type 0 where
   pub inside : stop ≤ length s
   pub size : headerLength h + length (take (stop - a) (drop a s)) ≡ stop
 
-lies : (d : DirectivePdu) (s : List ℕ) (a : ℕ) → a ≡ headerLength (d .header) → d .stop ≡ dataEnd (d .header) → pduLength (d .header) ≤ length s → headerLength (d .header) + 1 ≤ dataEnd (d .header)
+lies : (d : DirectivePdu) (s : List ℕ) (a : ℕ) → a ≡ headerLength (d .header) → d .stop ≡ dataEnd (d .header) → pduLength (d .header) ≤ length s
+    → headerLength (d .header) + 1 ≤ dataEnd (d .header)
     → OwnRead (d .header) s (d .stop) a
 lies d s a pa pe long code =
     let E = dataEnd (d .header) in
@@ -300,7 +302,8 @@ lies d s a pa pe long code =
     let size : length (take (d .stop - a) (drop a s)) ≡ d .stop - a = length-take-le (d .stop - a) (drop a s) (omega (arith, length-drop a s)) in
     record { stop-is = pe; before = omega arith; inside = omega arith; size = omega arith }
 
-data-is : (d : DirectivePdu) (s : List ℕ) (a : ℕ) → a ≡ headerLength (d .header) → d .stop ≡ dataEnd (d .header) → take (d .stop - a) (drop a s) ≡ contentOf (d .header) s
+data-is : (d : DirectivePdu) (s : List ℕ) (a : ℕ) → a ≡ headerLength (d .header) → d .stop ≡ dataEnd (d .header)
+    → take (d .stop - a) (drop a s) ≡ contentOf (d .header) s
 unfolding contentOf
 data-is d s a pa pe = rw (pe, pa)
 
@@ -348,5 +351,7 @@ module _ {A : Type 0} (own : ℕ) (ts : PduHeader → List ℕ → List Test) (x
         let pe : d .stop ≡ dataEnd (d .header) = sym (ap (λ (y : DirectivePdu). y .stop) is) ∙ ap dataEnd hs in
         let c : take (d .stop - a) (drop a s) ≡ r .content = data-is d s a pa pe ∙ ap (λ (y : PduHeader). contentOf y s) (sym hs) ∙ k .content-is in (
           lies d s a pa pe (rw hs at (k .long)) (rw hs at (k .code-in)),
-          ap₂ (λ (y : PduHeader) (b : List ℕ). firstOf (ts y b) (x y b)) (sym hs) c ∙ sym (run-tests (ts (r .header) (r .content)) (x (r .header) (r .content)) s) ∙ accepted-bind (readingDirective own) next s r (sym (m .first)),
+          ap₂ (λ (y : PduHeader) (b : List ℕ). firstOf (ts y b) (x y b)) (sym hs) c
+              ∙ sym (run-tests (ts (r .header) (r .content)) (x (r .header) (r .content)) s)
+              ∙ accepted-bind (readingDirective own) next s r (sym (m .first)),
         )

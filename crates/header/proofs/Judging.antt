@@ -69,7 +69,8 @@ sound-id w id p = record { is-width = not-false _ (p .0); fits = fits-lt _ _ (no
 module _ (h : PduHeader) where
   pub bad-widths : (ns : List ℕ) → told ns ≡ allOf (widthTests (h .width) (h .sequence .0 .width)) → told ns ≡ judging h
   unfolding judging recordTests
-  bad-widths ns e = refused-on ns (widthTests (h .width) (h .sequence .0 .width)) (tooLarge (sourceId h) ∷ tooLarge (h .sequence .0) ∷ tooLarge (destId h) ∷ []) tt h e
+  bad-widths ns e =
+      refused-on ns (widthTests (h .width) (h .sequence .0 .width)) (tooLarge (sourceId h) ∷ tooLarge (h .sequence .0) ∷ tooLarge (destId h) ∷ []) tt h e
 
   module _ (w : Passed (widthTests (h .width) (h .sequence .0 .width))) where
     pub large-source : fitsField (sourceId h) ≡ false → told (14 ∷ h .source .0 ∷ h .width ∷ []) ≡ judging h

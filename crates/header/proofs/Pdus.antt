@@ -40,7 +40,8 @@ unfolding judgingDirective directiveTests
 type-decides h good = sym (passed-on (recordTests h) (notADirective h ∷ []) tt good)
 
 -- what the judgement refuses, every judgement that begins with it refuses alike, and what it accepts passed every test
-pub refused-directive : {A : Type 0} (h : PduHeader) (us : List Test) (a : A) (ns : List ℕ) → told ns ≡ judgingDirective h → told ns ≡ firstOf (directiveTests h ++ us) a
+pub refused-directive : {A : Type 0} (h : PduHeader) (us : List Test) (a : A) (ns : List ℕ) → told ns ≡ judgingDirective h
+    → told ns ≡ firstOf (directiveTests h ++ us) a
 unfolding judgingDirective
 refused-directive h us a ns e = refused-on ns (directiveTests h) us tt a e
 
@@ -58,7 +59,8 @@ unfolding directiveTests
 directive-kind h p = sym (pduType-back (h .kind)) ∙ ap pduTypeIf (passed-last (recordTests h) (notADirective h ∷ []) p .0)
 
 -- direction, file flag and length are not judged
-pub with-directive : (d : Direction) (f : LargeFileFlag) (l : ℕ) (h : PduHeader) → directiveTests (withLength l (withFileFlag f (withDirection d h))) ≡ directiveTests h
+pub with-directive : (d : Direction) (f : LargeFileFlag) (l : ℕ) (h : PduHeader)
+    → directiveTests (withLength l (withFileFlag f (withDirection d h))) ≡ directiveTests h
 unfolding directiveTests
 with-directive d f l h = ap (λ (ts : List Test). ts ++ (notADirective h ∷ [])) (with-tests d f l h)
 
@@ -83,10 +85,14 @@ module _ (h : PduHeader) (room : ℕ) where
 
     module _ (d p : ℕ) (q : p ≡ pduLength h) where
       pub no-room-for : (ns : List ℕ) → told ns ≡ allOf (noRoom room p ∷ []) → told ns ≡ beginning h (accepted d) room
-      no-room-for ns f = refused-same ns (noRoom room p ∷ []) tt (pduLength h) f ∙ ap (λ (n : ℕ). firstOf (noRoom room n ∷ []) (pduLength h)) q ∙ behind-record (accepted d)
+      no-room-for ns f =
+          refused-same ns (noRoom room p ∷ []) tt (pduLength h) f ∙ ap (λ (n : ℕ). firstOf (noRoom room n ∷ []) (pduLength h)) q ∙ behind-record (accepted d)
 
       pub room-for : accepted tt ≡ allOf (noRoom room p ∷ []) → accepted p ≡ beginning h (accepted d) room
-      room-for f = ap accepted q ∙ sym (all-passed (noRoom room (pduLength h) ∷ []) (pduLength h) (rw q at (passed (noRoom room p ∷ []) tt tt f .0))) ∙ behind-record (accepted d)
+      room-for f =
+          ap accepted q
+          ∙ sym (all-passed (noRoom room (pduLength h) ∷ []) (pduLength h) (rw q at (passed (noRoom room p ∷ []) tt tt f .0)))
+          ∙ behind-record (accepted d)
 
 -- the header keeps its length where the own tests refused
 pub refused-data : (ns : List ℕ) (h : PduHeader) → h ≡ withData (told ns) h
@@ -146,7 +152,8 @@ sealed k content s b₁ b₂ size room e₁ e₂ =
     let lC : length C ≡ 2 * crcBit (k .crc) = checksum-length (k .crc) X in
     let l₁ : length b₁ ≡ length s = ap length e₁ ∙ length-sets s 0 X in
     let t₁ : take n b₁ ≡ X = ap (take n) (e₁ ∙ sets-eq X s 0 (omega arith)) ∙ take-at X (drop (0 + length X) s) n lX in
-    let p : b₂ ≡ sets s 0 (X ++ C) = then-sets X C s n lX e₁ (e₂ ∙ added-sets (k .crc) n b₁ (omega arith) ∙ ap (λ (x : List ℕ). sets b₁ n (checksumBytes (k .crc) x)) t₁) in
+    let p : b₂ ≡ sets s 0 (X ++ C) = then-sets X C s n lX e₁
+    (e₂ ∙ added-sets (k .crc) n b₁ (omega arith) ∙ ap (λ (x : List ℕ). sets b₁ n (checksumBytes (k .crc) x)) t₁) in
     let lXC : length (X ++ C) ≤ length s = omega (arith, length-append X C) in
     p ∙ sets-eq (X ++ C) s 0 (omega arith) ∙ ap (λ (j : ℕ). (X ++ C) ++ drop j s) (zero-add (length (X ++ C)))
 
@@ -166,7 +173,8 @@ written-has h ts room w e =
     record { handed-back = p .1; good = passed-first (directiveTests h) (ts ++ last) (p .0); own-passed = passed-first ts last q; room-is = ltb-false _ _ (passed-last ts last q .0) }
 
 -- and what has that is accepted
-pub passes : (h : PduHeader) (ts : List Test) (room : ℕ) → Passed (directiveTests h) → Passed ts → pduLength h ≤ room → accepted (handedBack h) ≡ writingPdu h ts room
+pub passes : (h : PduHeader) (ts : List Test) (room : ℕ) → Passed (directiveTests h) → Passed ts → pduLength h ≤ room
+    → accepted (handedBack h) ≡ writingPdu h ts room
 unfolding writingPdu
 passes h ts room good own l =
     let last = noRoom room (pduLength h) ∷ [] in
@@ -186,18 +194,21 @@ unfolding directiveTests recordTests
 with-any d h = refl
 
 -- where the own tests refused no length is looked at
-begun-with : (o : Answer ℕ) (ts : List Test) (d : ℕ) → o ≡ firstOf ts d → (h : PduHeader) (room : ℕ) → beginning (withData o h) o room ≡ beginning (withLength d h) o room
+begun-with : (o : Answer ℕ) (ts : List Test) (d : ℕ) → o ≡ firstOf ts d → (h : PduHeader) (room : ℕ)
+    → beginning (withData o h) o room ≡ beginning (withLength d h) o room
 unfolding withData beginning judgingDirective
 begun-with (accepted x) ts d own h room = ap (λ (y : ℕ). beginning (withLength y h) (accepted x) room) (passed ts x d own .1)
 begun-with (short l n) ts d own h room = ap (λ (us : List Test). andThen (allOf us) (λ _. short l n)) (sym (with-any d h))
 begun-with (refused ns) ts d own h room = ap (λ (us : List Test). andThen (allOf us) (λ _. refused ns)) (sym (with-any d h))
 
 -- the beginning has the tests of the whole write, in document 01's order
-begins : (h : PduHeader) (ts : List Test) (d room : ℕ) → beginning h (firstOf ts d) room ≡ firstOf (directiveTests h ++ (ts ++ (noRoom room (pduLength h) ∷ []))) (pduLength h)
+begins : (h : PduHeader) (ts : List Test) (d room : ℕ)
+    → beginning h (firstOf ts d) room ≡ firstOf (directiveTests h ++ (ts ++ (noRoom room (pduLength h) ∷ []))) (pduLength h)
 unfolding beginning judgingDirective
 begins h ts d room =
     let last = noRoom room (pduLength h) ∷ [] in
-    then-tests (directiveTests h) (ts ++ last) tt (pduLength h) (λ _. andThen (firstOf ts d) (λ _. into h room)) (then-tests ts last d (pduLength h) (λ _. into h room) refl)
+    then-tests (directiveTests h) (ts ++ last) tt (pduLength h) (λ _. andThen (firstOf ts d) (λ _. into h room))
+    (then-tests ts last d (pduLength h) (λ _. into h room) refl)
 
 module _ (j h : PduHeader) (pj : j ≡ h) (ts : List Test) (d : ℕ) (o : Answer ℕ) (own : o ≡ firstOf ts d) (k : PduHeader) (pk : k ≡ withData o j) where
   abbrev K : PduHeader
@@ -229,11 +240,14 @@ module _ (j h : PduHeader) (pj : j ≡ h) (ts : List Test) (d : ℕ) (o : Answer
 
     pub judged-passed : accepted (record { header = k; length = p }) ≡ writingPdu K ts room
     judged-passed =
-        ap (λ (n : ℕ). accepted (record { header = k; length = n })) (stands .length-is) ∙ passes k ts room (stands .good) begun-passed begun-room ∙ ap (λ (x : PduHeader). writingPdu x ts room) begun-header
+        ap (λ (n : ℕ). accepted (record { header = k; length = n })) (stands .length-is)
+        ∙ passes k ts room (stands .good) begun-passed begun-room
+        ∙ ap (λ (x : PduHeader). writingPdu x ts room) begun-header
 
   module _ (s : List ℕ) where
     -- a refused write changes no byte
-    pub write-refused : (content b ns : List ℕ) → told ns ≡ beginning k o (length s) → b ≡ begunMemory k o s → (told ns ≡ writingPdu K ts (length s)) × (b ≡ pduMemory K ts content s)
+    pub write-refused : (content b ns : List ℕ) → told ns ≡ beginning k o (length s) → b ≡ begunMemory k o s
+        → (told ns ≡ writingPdu K ts (length s)) × (b ≡ pduMemory K ts content s)
     unfolding pduMemory
     write-refused content b ns e q =
         let r = judged-refused (length s) ns e in

@@ -36,7 +36,8 @@ over-length k content size =
     length-append M (checksumBytes (k .crc) M) ∙ omega (arith, length-append (headerBytes k) content, header-length k, checksum-length (k .crc) M, pdu-sum k)
 
 -- the last part of its data, where it lies in the bytes
-pub content-there : (k : PduHeader) (front last t : List ℕ) → length (front ++ last) + crcLength (k .crc) ≡ k .length → (n at : ℕ) → at ≡ headerLength k + length front → n ≡ length last
+pub content-there : (k : PduHeader) (front last t : List ℕ) → length (front ++ last) + crcLength (k .crc) ≡ k .length → (n at : ℕ)
+    → at ≡ headerLength k + length front → n ≡ length last
     → take n (drop at (pduOver k (front ++ last) ++ t)) ≡ last
 unfolding pduOver
 content-there k front last t size n at pa pn =
@@ -121,6 +122,8 @@ module _ (k : PduHeader) (content t : List ℕ) (good : Passed (directiveTests k
         ∙ code-run
 
     -- so its tests and what it accepts are about its data alone
-    pub reads-content : {A : Type 0} (ts : PduHeader → List ℕ → List Test) (x : PduHeader → List ℕ → A) → run (reader own ts x) (pduOver k content ++ t) ≡ firstOf (ts k content) (x k content)
+    pub reads-content : {A : Type 0} (ts : PduHeader → List ℕ → List Test) (x : PduHeader → List ℕ → A)
+        → run (reader own ts x) (pduOver k content ++ t) ≡ firstOf (ts k content) (x k content)
     reads-content ts x =
-        sym (accepted-bind (readingDirective own) (next own ts x) (pduOver k content ++ t) _ (sym pdu-reads)) ∙ run-tests (ts k content) (x k content) (pduOver k content ++ t)
+        sym (accepted-bind (readingDirective own) (next own ts x) (pduOver k content ++ t) _ (sym pdu-reads))
+        ∙ run-tests (ts k content) (x k content) (pduOver k content ++ t)

@@ -35,11 +35,13 @@ module _ (h : PduHeader) (k : Sound h) (small : h .length < 2 ^ 16) where
   first-at : (r : List ℕ) → getD (headerBytes h ++ r) 0 0 ≡ firstByte h
   unfolding headerBytes firstByte
   first-at r =
-      let tail = beBytes 2 (h .length) ++ (beBytes 1 (fourthByte h) ++ (beBytes e (h .source .0) ++ (beBytes q (h .sequence .0 .value) ++ (beBytes e (h .destination .0) ++ r)))) in
+      let tail = beBytes 2 (h .length) ++
+      (beBytes 1 (fourthByte h) ++ (beBytes e (h .source .0) ++ (beBytes q (h .sequence .0 .value) ++ (beBytes e (h .destination .0) ++ r)))) in
       let s : headerBytes h ++ r ≡ beBytes 1 (firstByte h) ++ tail = simp append-assoc in
       ap (λ (x : List ℕ). getD x 0 0) s
       ∙ byte-back [] tail 0 (firstByte h) (λ _. 0)
-      (bits.first-lt _ _ _ _ _ (bits.pduType-bit (h .kind)) (bits.direction-bit (h .direction)) (bits.mode-bit (h .mode)) (bits.crc-bit (h .crc)) (bits.file-bit (h .file)))
+      (bits.first-lt _ _ _ _ _ (bits.pduType-bit (h .kind)) (bits.direction-bit (h .direction)) (bits.mode-bit (h .mode)) (bits.crc-bit (h .crc))
+      (bits.file-bit (h .file)))
 
   fourth-at : (r : List ℕ) → getD (headerBytes h ++ r) 3 0 ≡ fourthByte h
   unfolding headerBytes fourthByte
@@ -54,7 +56,9 @@ module _ (h : PduHeader) (k : Sound h) (small : h .length < 2 ^ 16) where
 
   version-is : firstByte h / 32 % 8 ≡ 1
   unfolding firstByte
-  version-is = bits.first-version _ _ _ _ _ (bits.pduType-bit (h .kind)) (bits.direction-bit (h .direction)) (bits.mode-bit (h .mode)) (bits.crc-bit (h .crc)) (bits.file-bit (h .file))
+  version-is =
+      bits.first-version _ _ _ _ _ (bits.pduType-bit (h .kind)) (bits.direction-bit (h .direction)) (bits.mode-bit (h .mode)) (bits.crc-bit (h .crc))
+      (bits.file-bit (h .file))
 
   entity-is : fourthByte h / 16 % 8 + 1 ≡ e
   unfolding fourthByte

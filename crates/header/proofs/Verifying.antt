@@ -142,5 +142,7 @@ unfolding pduBytes
 closed-verifies h m p t e l =
     let long : pduLength h ≤ length (p ++ t) = omega (arith, length-append p t) in
     let first : take (pduLength h) (p ++ t) ≡ p = take-at p t (pduLength h) l in
-    let good : (eqb (crcBit (h .crc)) 1 && not (eqb (checksumOf p) 0)) ≡ false = ap (λ (x : List ℕ). eqb (crcBit (h .crc)) 1 && not (eqb (checksumOf x) 0)) e ∙ sum-good (h .crc) m in
+    let good : (eqb (crcBit (h .crc)) 1 && not (eqb (checksumOf p) 0)) ≡ false = ap
+    (λ (x : List ℕ). eqb (crcBit (h .crc)) 1 && not (eqb (checksumOf x) 0)) e
+    ∙ sum-good (h .crc) m in
     rw (le-ltb _ _ long, first, good)

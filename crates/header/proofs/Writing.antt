@@ -99,7 +99,8 @@ written-room h room n e =
     ltb-false _ _ (p .0 .0)
 
 -- and the buffer then has the header's bytes in front, the rest as it was, whatever else the writer's answer depends on
-pub in-front : (h : PduHeader) (s b : List ℕ) (n : ℕ) (o : Answer ℕ) → accepted n ≡ o → b ≡ headerBytes h ++ drop (headerLength h) s → b ≡ leaves o (λ _. headerBytes h) s
+pub in-front : (h : PduHeader) (s b : List ℕ) (n : ℕ) (o : Answer ℕ) → accepted n ≡ o → b ≡ headerBytes h ++ drop (headerLength h) s
+    → b ≡ leaves o (λ _. headerBytes h) s
 in-front h s b n o e q = q ∙ ap (λ (k : ℕ). headerBytes h ++ drop k s) (sym (header-length h)) ∙ ap (λ (x : Answer ℕ). leaves x (λ _. headerBytes h) s) e
 
 pub accepted-write : (h : PduHeader) (s b : List ℕ) (n : ℕ) → accepted n ≡ writingHeader h (length s) → b ≡ headerBytes h ++ drop (headerLength h) s
@@ -109,6 +110,7 @@ accepted-write h s b n e q = (e, in-front h s b n (writingHeader h (length s)) e
 
 -- ---- for the writers above
 
-pub with-length : (d : Direction) (f : LargeFileFlag) (l : ℕ) (h : PduHeader) → headerLength (withLength l (withFileFlag f (withDirection d h))) ≡ headerLength h
+pub with-length : (d : Direction) (f : LargeFileFlag) (l : ℕ) (h : PduHeader)
+    → headerLength (withLength l (withFileFlag f (withDirection d h))) ≡ headerLength h
 unfolding headerLength
 with-length d f l h = refl

@@ -65,7 +65,8 @@ told-decided : (ns s : List ℕ) → isListedAs (getD ns 0 0) (getD ns 1 0) s �
 unfolding isListedAs
 told-decided ns s = sym (told-cases (decided s) (isListedAs (getD ns 0 0) (getD ns 1 0) s) ns (λ one. rw one) refl)
 
-pub other-listed : (r : Refusal) (s : List ℕ) (b : Bool) → b ≡ isListedAs (numbersOf r .number) (numbersOf r .first) s → told (paper r) ≡ run readingNak s → b ≡ isListed s
+pub other-listed : (r : Refusal) (s : List ℕ) (b : Bool) → b ≡ isListedAs (numbersOf r .number) (numbersOf r .first) s
+    → told (paper r) ≡ run readingNak s → b ≡ isListed s
 unfolding isListed
 other-listed r s b e p = e ∙ told-decided (paper r) s ∙ ap (decided s) p
 

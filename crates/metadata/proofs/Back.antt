@@ -153,7 +153,9 @@ module _ (p : MetadataParams) (source destination options : List ℕ) (own : Pas
 
     first : NameBack c source n₀
     unfolding n₀
-    first = name-back P source (Y ++ options) c n₀ parts (fixed-size p ∙ ap namesAt (sym same-file)) (lent-good source destination options (lent-passed p source destination options own) .source-small)
+    first =
+        name-back P source (Y ++ options) c n₀ parts (fixed-size p ∙ ap namesAt (sym same-file))
+        (lent-good source destination options (lent-passed p source destination options own) .source-small)
 
     n₁ : ℕ
     n₁ = stopAt Lv c n₀
@@ -164,7 +166,8 @@ module _ (p : MetadataParams) (source destination options : List ℕ) (own : Pas
 
     second : NameBack c destination n₁
     second =
-        name-back (P ++ X) destination options c n₁ (parts ∙ sym (append-assoc P X (Y ++ options))) before-second (lent-good source destination options (lent-passed p source destination options own) .destination-small)
+        name-back (P ++ X) destination options c n₁ (parts ∙ sym (append-assoc P X (Y ++ options))) before-second
+        (lent-good source destination options (lent-passed p source destination options own) .destination-small)
 
     n₂ : ℕ
     n₂ = stopAt Lv c n₁
@@ -189,8 +192,10 @@ module _ (p : MetadataParams) (source destination options : List ℕ) (own : Pas
     tests-pass =
         let l : headerLength k + namesAt (k .file) ≤ dataEnd k = omega (arith, ends, first .inside, first .stop) in
         let a = ap not (first .all) in
-        let b = ap not (second .all) in
-        (le-ltb _ _ l, (ap (λ (n : ℕ). not (isType n)) type-back ∙ type-allowed, (a, (b, (ap (λ (x : FirstCut). optionCut (headerLength k) x .holds) uncut, tt)))))
+        let b = ap not (second .all) in (
+          le-ltb _ _ l,
+          (ap (λ (n : ℕ). not (isType n)) type-back ∙ type-allowed, (a, (b, (ap (λ (x : FirstCut). optionCut (headerLength k) x .holds) uncut, tt)))),
+        )
 
     -- ---- and in the bytes
 
@@ -211,7 +216,9 @@ module _ (p : MetadataParams) (source destination options : List ℕ) (own : Pas
           let size : numberAt c 2 (sizeWidth (k .file)) ≡ p .size = ap (λ (f : LargeFileFlag). numberAt c 2 (sizeWidth f)) same-file ∙ size-back in
           let one = part-in s c h (length c) (n₀ + 1) n₁ content-is long (omega (arith, first .stop)) (first .inside) ∙ first .there in
           let two = part-in s c h (length c) (n₁ + 1) n₂ content-is long (omega (arith, second .stop)) (second .inside) ∙ second .there in
-          let rest = part-in s c h (length c) n₂ (length c) content-is long (second .inside) (omega arith) ∙ take-all (length c - n₂) (drop n₂ c) (omega (arith, length-drop n₂ c)) ∙ options-back in
+          let rest = part-in s c h (length c) n₂ (length c) content-is long (second .inside) (omega arith)
+          ∙ take-all (length c - n₂) (drop n₂ c) (omega (arith, length-drop n₂ c))
+          ∙ options-back in
           record {
             params = λ i. record { header = k; closure = closure-back i; kind = type-back i; size = size i };
             source-is = one;
@@ -223,6 +230,7 @@ module _ (p : MetadataParams) (source destination options : List ℕ) (own : Pas
       unfolding readingMetadata n₀
       reads-back good =
           let two : 2 ≤ length c = omega (arith, first .inside, first .stop, size-low (k .file)) in (
-            reads-content k c t good filled-length two filled-small 7 (known-range 7 (omega arith) (omega arith)) code-is readTests metadataIn ∙ all-passed (readTests k c) (metadataIn k c) tests-pass,
+            reads-content k c t good filled-length two filled-small 7 (known-range 7 (omega arith) (omega arith)) code-is readTests metadataIn
+                ∙ all-passed (readTests k c) (metadataIn k c) tests-pass,
             same,
           )

@@ -80,7 +80,8 @@ module _ (h : PduHeader) (c : List ℕ) (stop a w : ℕ) (pe : stop ≡ dataEnd 
       pub names-refused : (ns : List ℕ) → told ns ≡ firstOf names (namesIn a c (2 + w)) → told ns ≡ answer
       names-refused ns e = refused-same ns names (namesIn a c (2 + w)) (metadataIn h c) e ∙ names-next
 
-      pub metadata-read : (n : Names) (closure : Bool) (size : ℕ) → headerLength h + length c ≡ stop → accepted n ≡ firstOf names (namesIn a c (2 + w)) → closure ≡ closureIn c
+      pub metadata-read : (n : Names) (closure : Bool) (size : ℕ) → headerLength h + length c ≡ stop
+          → accepted n ≡ firstOf names (namesIn a c (2 + w)) → closure ≡ closureIn c
           → size ≡ beAt (take (2 + w - 2) (drop 2 c)) 0 (sizeWidth (h .file))
           → accepted (record { params = record { header = h; closure = closure; kind = typeIn c; size = size }; source = n .source; destination = n .destination; options = record { start = n .options; stop = stop } }) ≡ answer
       unfolding metadataIn
@@ -89,7 +90,8 @@ module _ (h : PduHeader) (c : List ℕ) (stop a w : ℕ) (pe : stop ≡ dataEnd 
           let l : 2 + w ≤ length c = long-enough long in
           let qn : n ≡ namesIn (headerLength h) c (namesAt (h .file)) = g .1 ∙ ap₂ (λ (i j : ℕ). namesIn i c (2 + j)) pa pw in
           let qs = ps ∙ part-read c 2 (sizeWidth (h .file)) (2 + w) (ap (λ (i : ℕ). 2 + i) pw) (size-high (h .file)) (omega arith) in
-          ap accepted (λ i. record { params = record { header = h; closure = pc i; kind = typeIn c; size = qs i }; source = qn i .source; destination = qn i .destination; options = record { start = qn i .options; stop = pe i } })
+          ap accepted
+          (λ i. record { params = record { header = h; closure = pc i; kind = typeIn c; size = qs i }; source = qn i .source; destination = qn i .destination; options = record { start = qn i .options; stop = pe i } })
           ∙ sym (all-passed names (metadataIn h c) (g .0))
           ∙ names-next
 
@@ -228,11 +230,13 @@ pub fixed-passed : (p : MetadataParams) (source destination options : List ℕ) 
 unfolding ownTests
 fixed-passed p source destination options t = passed-first (fixedTests p) _ t
 
-pub lent-passed : (p : MetadataParams) (source destination options : List ℕ) → Passed (ownTests p source destination options) → Passed (lentTests source destination options)
+pub lent-passed : (p : MetadataParams) (source destination options : List ℕ) → Passed (ownTests p source destination options)
+    → Passed (lentTests source destination options)
 unfolding ownTests
 lent-passed p source destination options t = passed-first (lentTests source destination options) _ (passed-last (fixedTests p) _ t)
 
-pub length-small : (p : MetadataParams) (source destination options : List ℕ) → Passed (ownTests p source destination options) → metadataLength p source destination options < 2 ^ 16
+pub length-small : (p : MetadataParams) (source destination options : List ℕ) → Passed (ownTests p source destination options)
+    → metadataLength p source destination options < 2 ^ 16
 unfolding ownTests
 length-small p source destination options t =
     let d = metadataLength p source destination options in
@@ -243,26 +247,32 @@ pub fixed-size : (p : MetadataParams) → length (fixedData p) ≡ namesAt (p .h
 unfolding fixedData
 fixed-size p = simp be-length (omega arith)
 
-pub lent-size : (source destination options : List ℕ) → length (lentData source destination options) ≡ (1 + length source) + ((1 + length destination) + length options)
+pub lent-size : (source destination options : List ℕ)
+    → length (lentData source destination options) ≡ (1 + length source) + ((1 + length destination) + length options)
 unfolding lentData
 lent-size source destination options = simp (length-append, field-length)
 
-pub length-is : (p : MetadataParams) (source destination options : List ℕ) → length (metadataData p source destination options) + 2 * crcBit (p .header .crc) ≡ metadataLength p source destination options
+pub length-is : (p : MetadataParams) (source destination options : List ℕ)
+    → length (metadataData p source destination options) + 2 * crcBit (p .header .crc) ≡ metadataLength p source destination options
 unfolding metadataData metadataLength
-length-is p source destination options = omega (arith, length-append (fixedData p) (lentData source destination options), fixed-size p, lent-size source destination options)
+length-is p source destination options =
+    omega (arith, length-append (fixedData p) (lentData source destination options), fixed-size p, lent-size source destination options)
 
 -- the data through the file size
-pub fixed-stored : (p : MetadataParams) (at byte : ℕ) (s b : List ℕ) → at + length (fixedData p) ≤ length s → Passed (fixedTests p) → byte ≡ closureBit (p .closure) * 64 + p .kind
+pub fixed-stored : (p : MetadataParams) (at byte : ℕ) (s b : List ℕ) → at + length (fixedData p) ≤ length s → Passed (fixedTests p)
+    → byte ≡ closureBit (p .closure) * 64 + p .kind
     → b ≡ bePut (set (set s at 7) (at + 1) byte) (at + 2) (sizeWidth (p .header .file)) (p .size) → b ≡ sets s at (fixedData p)
 unfolding fixedData
 fixed-stored p at byte s b room t pb e =
     let n : at + 1 ≡ suc at = omega arith in
     let x : List ℕ = 7 ∷ (closureBit (p .closure) * 64 + p .kind) ∷ [] in
     let q : set (set s at 7) (at + 1) byte ≡ sets s at x = rw (n, pb) in
-    put-behind s x at (at + 2) (sizeWidth (p .header .file)) (p .size) refl (size-high (p .header .file)) (omega (arith, fixed-size p)) (fixed-good p t .size-small) q e
+    put-behind s x at (at + 2) (sizeWidth (p .header .file)) (p .size) refl (size-high (p .header .file)) (omega (arith, fixed-size p))
+    (fixed-good p t .size-small) q e
 
 -- names and options
-pub lent-stored : (s b₁ b₂ b₃ source destination options : List ℕ) (at : ℕ) → Passed (lentTests source destination options) → at + length (lentData source destination options) ≤ length s
+pub lent-stored : (s b₁ b₂ b₃ source destination options : List ℕ) (at : ℕ) → Passed (lentTests source destination options)
+    → at + length (lentData source destination options) ≤ length s
     → b₁ ≡ fieldPut Lv s at 0 source → b₂ ≡ fieldPut Lv b₁ (at + 1 + length source) 0 destination → b₃ ≡ bytesPut b₂ (at + 1 + length source + 1 + length destination) options
     → b₃ ≡ sets s at (lentData source destination options)
 unfolding lentData
@@ -274,8 +284,10 @@ lent-stored s b₁ b₂ b₃ source destination options at t room e₁ e₂ e₃
     let lY : length Y ≡ 1 + length destination = field-length Lv 0 destination in
     let all = lent-size source destination options in
     let p₁ : b₁ ≡ sets s at X = then-field Lv [] s source at at 0 (omega arith) (omega (arith, g .source-small)) (omega arith) refl e₁ in
-    let p₂ : b₂ ≡ sets s at (X ++ Y) = then-field Lv X s destination at (at + 1 + length source) 0 (omega arith) (omega (arith, g .destination-small)) (omega arith) p₁ e₂ in
-    let p₃ : b₃ ≡ sets s at ((X ++ Y) ++ options) = then-bytes (X ++ Y) s options at (at + 1 + length source + 1 + length destination) (omega (arith, length-append X Y)) (omega arith) p₂ e₃ in
+    let p₂ : b₂ ≡ sets s at (X ++ Y) = then-field Lv X s destination at (at + 1 + length source) 0 (omega arith) (omega (arith, g .destination-small))
+    (omega arith) p₁ e₂ in
+    let p₃ : b₃ ≡ sets s at ((X ++ Y) ++ options) = then-bytes (X ++ Y) s options at (at + 1 + length source + 1 + length destination)
+    (omega (arith, length-append X Y)) (omega arith) p₂ e₃ in
     p₃ ∙ ap (sets s at) (append-assoc X Y options)
 
 -- both
@@ -290,7 +302,8 @@ module _ (p : MetadataParams) (source destination options s : List ℕ) (at w : 
   pub lent-room : (b : List ℕ) → b ≡ sets s at (fixedData p) → at + 2 + w + length (lentData source destination options) ≤ length b
   lent-room b e = omega (arith, ap length e ∙ length-sets s at (fixedData p), both-size, fixed-size p, pw)
 
-  pub data-stored : (b b′ : List ℕ) → b ≡ sets s at (fixedData p) → b′ ≡ sets b (at + 2 + w) (lentData source destination options) → b′ ≡ sets s at (metadataData p source destination options)
+  pub data-stored : (b b′ : List ℕ) → b ≡ sets s at (fixedData p) → b′ ≡ sets b (at + 2 + w) (lentData source destination options)
+      → b′ ≡ sets s at (metadataData p source destination options)
   unfolding metadataData
   data-stored b b′ e e′ =
       let n : at + length (fixedData p) ≡ at + 2 + w = omega (arith, fixed-size p, pw) in

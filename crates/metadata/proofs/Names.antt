@@ -101,7 +101,8 @@ module _ (from : ℕ) (c : List ℕ) (at : ℕ) (inside : at ≤ length c) (room
             let k : At place ≡ firstCut Tlv c (stopAt Lv c (stopAt Lv c at)) = o ∙ ap (firstCut Tlv c) (sym second-stop) in
             told-is-refused 25 _ refl ∙ rw (is-all c at f e, is-all c (stopAt Lv c at) g second, ← k)
 
-      pub names-found : (x y : _) → x ≡ movedBy from f → y ≡ movedBy from g → Nothing ≡ firstCut Tlv c (g .stop) → accepted (record { source = x; destination = y; options = from + g .stop }) ≡ answer
+      pub names-found : (x y : _) → x ≡ movedBy from f → y ≡ movedBy from g → Nothing ≡ firstCut Tlv c (g .stop)
+          → accepted (record { source = x; destination = y; options = from + g .stop }) ≡ answer
       unfolding nameTests namesIn
       names-found x y px py o =
           let k : Nothing ≡ firstCut Tlv c (stopAt Lv c (stopAt Lv c at)) = o ∙ ap (firstCut Tlv c) (sym second-stop) in

@@ -102,7 +102,8 @@ area-is s m a =
     let c = a .content in
     let o = optionsAt (a .header) c in
     let size : h + length c ≡ E = ap (λ (x : List ℕ). h + length x) (sym (a .content-is)) ∙ a .lies .size in
-    let opts : m .options ≡ record { start = h + o; stop = h + length c } = ap (λ (x : Metadata). x .options) (a .is) ∙ ap (λ (n : ℕ). record { start = h + o; stop = n }) (sym size) in
+    let opts : m .options ≡ record { start = h + o; stop = h + length c } = ap (λ (x : Metadata). x .options) (a .is)
+    ∙ ap (λ (n : ℕ). record { start = h + o; stop = n }) (sym size) in
     let l : length c ≡ E - h = omega arith in
     ap (λ (x : Part). partOf x s) opts
     ∙ part-in s c h (length c) o (length c) (ap (λ (n : ℕ). take n (drop h s)) l ∙ a .content-is) (omega (arith, a .lies .inside)) (a .inside) (omega arith)

@@ -70,7 +70,8 @@ one-cut (p ∷ ps) (q ∷ qs) a b e =
 
 -- no bytes are no NAK
 no-nak : (n : Nak) (s : List ℕ) → s ≡ [] → run readingNak s ≡ accepted n → ⊥
-no-nak n s z e = let a = accepted-shows s n e in omega (arith, ap length z, a .inside, a .up-to, end-sum (n .header), at-least (n .header) _ refl, crc-bit (n .header .crc))
+no-nak n s z e =
+    let a = accepted-shows s n e in omega (arith, ap length z, a .inside, a .up-to, end-sum (n .header), at-least (n .header) _ refl, crc-bit (n .header .crc))
 
 pub one-reading : OneReading
 one-reading [] [] s a b = refl
@@ -117,7 +118,8 @@ module _ (k : Archived) where
   archived-length =
       let h = k .written .header in
       let area = numbersBytes (sizeWidth (h .file)) (k .numbers) in
-      let size : length area ≡ sizeWidth (k .file) * length (k .numbers) = numbers-length _ (k .numbers) ∙ ap (λ (f : LargeFileFlag). sizeWidth f * length (k .numbers)) (has .flag) in
+      let size : length area ≡ sizeWidth (k .file) * length (k .numbers) = numbers-length _ (k .numbers)
+      ∙ ap (λ (f : LargeFileFlag). sizeWidth f * length (k .numbers)) (has .flag) in
       over-length h (nakData (h .file) (k .start) (k .end) area) (omega (arith, data-length (h .file) (k .start) (k .end) area, size, has .whole, pdu-sum h))
 
   -- and what it holds decides them
@@ -139,12 +141,15 @@ archive-reads-back (k ∷ ks) =
       nak = as-read k;
       read = b .read;
       holds = λ i. record { header = k .written .header; start = k .start; end = k .end; pairs = b .pairs i };
-      rest = subst (ReadAs (map contentsOf ks)) (sym (drop-at (bytesOf k) (archive ks) (pduLength (k .written .header)) (archived-length k))) (archive-reads-back ks);
+      rest =
+          subst (ReadAs (map contentsOf ks)) (sym (drop-at (bytesOf k) (archive ks) (pduLength (k .written .header)) (archived-length k)))
+          (archive-reads-back ks);
     }
 
 pub one-list : OneList
 one-list js ks e =
-    let same = one-reading (map contentsOf js) (map contentsOf ks) (archive js) (archive-reads-back js) (subst (ReadAs (map contentsOf ks)) (sym e) (archive-reads-back ks)) in
+    let same = one-reading (map contentsOf js) (map contentsOf ks) (archive js) (archive-reads-back js)
+    (subst (ReadAs (map contentsOf ks)) (sym e) (archive-reads-back ks)) in
     (sym (length-map js contentsOf) ∙ ap length same ∙ length-map ks contentsOf, same)
 
 archive-for : (ks : List Archived) → archive ks ≡ endToEnd (map bytesFor (map contentsOf ks))
@@ -162,7 +167,8 @@ writer-leaves file h start end numbers s w scope lent e =
     record {
       nak = k;
       contents = refl;
-      bytes = ap (take (w .length)) (begins-with file h start end numbers s w e) ∙ take-at (bytesOf k) _ (w .length) (archived-length k ∙ sym (has k .length-is));
+      bytes =
+          ap (take (w .length)) (begins-with file h start end numbers s w e) ∙ take-at (bytesOf k) _ (w .length) (archived-length k ∙ sym (has k .length-is));
     }
 
 -- the n numbers of w bytes from `at` on
@@ -187,7 +193,8 @@ unfolding numbersFrom numbersBytes
 from-bytes w zero at s h l = ap (λ (j : ℕ). take j (drop at s)) (let z : 0 ≡ w * 0 = omega arith in z)
 from-bytes w (suc n) at s h l =
     let m : w + w * n ≡ w * suc n = omega arith in
-    ap₂ (λ (x y : List ℕ). x ++ y) (number-bytes s at w h (omega arith)) (from-bytes w n (at + w) s h (omega arith) ∙ ap (take (w * n)) (sym (drop-drop w at s)))
+    ap₂ (λ (x y : List ℕ). x ++ y) (number-bytes s at w h (omega arith))
+    (from-bytes w n (at + w) s h (omega arith) ∙ ap (take (w * n)) (sym (drop-drop w at s)))
     ∙ sym (take-add w (w * n) (drop at s))
     ∙ ap (λ (j : ℕ). take j (drop at s)) m
 

@@ -105,9 +105,11 @@ module _ (file : LargeFileFlag) (h : PduHeader) (start end count : ℕ) where
   module _ (good : Passed (directiveTests h)) (o : Answer ℕ) (own : o ≡ firstOf (ownTests file start end count) (dataLength file (h .crc) (count / 2))) where
     pub refused-own : (ns : List ℕ) → told ns ≡ o → told ns ≡ judgingNak file h start end count
     unfolding judgingNak
-    refused-own ns e = refused-after (directiveTests h) (ownTests file start end count) good (filled file (count / 2) h) (dataLength file (h .crc) (count / 2)) ns (e ∙ own)
+    refused-own ns e =
+        refused-after (directiveTests h) (ownTests file start end count) good (filled file (count / 2) h) (dataLength file (h .crc) (count / 2)) ns (e ∙ own)
 
-    pub judged-filled : (d : ℕ) (g k : PduHeader) → accepted d ≡ o → g ≡ towardsSender file h → k ≡ withLength d g → accepted k ≡ judgingNak file h start end count
+    pub judged-filled : (d : ℕ) (g k : PduHeader) → accepted d ≡ o → g ≡ towardsSender file h → k ≡ withLength d g
+        → accepted k ≡ judgingNak file h start end count
     unfolding judgingNak filled
     judged-filled d g k e pg pk =
         let p = passed (ownTests file start end count) d (dataLength file (h .crc) (count / 2)) (e ∙ own) in
@@ -178,12 +180,14 @@ unfolding filled
 unfilled-passes file n h p = rw (← with-directive TowardsSender file (dataLength file (h .crc) n) h) p
 
 -- what is written was judged
-judged-write : (file : LargeFileFlag) (h : PduHeader) (start end count room : ℕ) (w : PduWritten) → writingNak file h start end count room ≡ accepted w → accepted (w .header) ≡ judgingNak file h start end count
+judged-write : (file : LargeFileFlag) (h : PduHeader) (start end count room : ℕ) (w : PduWritten)
+    → writingNak file h start end count room ≡ accepted w → accepted (w .header) ≡ judgingNak file h start end count
 unfolding writingNak judgingNak
 judged-write file h start end count room w e =
     let F = filled file (count / 2) h in
     let p = written-has F (ownTests file start end count) room w e in
-    ap (λ (x : PduWritten). accepted (x .header)) (p .handed-back) ∙ passed-after (directiveTests h) (ownTests file start end count) (unfilled-passes file (count / 2) h (p .good)) F (p .own-passed)
+    ap (λ (x : PduWritten). accepted (x .header)) (p .handed-back)
+    ∙ passed-after (directiveTests h) (ownTests file start end count) (unfilled-passes file (count / 2) h (p .good)) F (p .own-passed)
 
 pub comparing-says-yes : ComparingSaysYes
 unfolding sameNak
@@ -198,7 +202,9 @@ comparing-says-yes file h start end room numbers t w ends lent e =
     ap₂ (λ (u : ℕ) (x : List ℕ). holdsNumbers u x numbers) f (b .area) ∙ holds-self (sizeWidth (k .file)) numbers (subst (λ (u : ℕ). Lent u numbers) f lent) in
     let same : true ≡ sameNak n k start end = sym (rw (same-self k, eq-eqb start start refl, eq-eqb end end refl)) in
     let judged = judged-write file h start end (length numbers) room w e in
-    sym (alike file h start end (length numbers) n true k judged k true refl same refl ∙ list-decides file h start end numbers s n (sym (b .read)) (sizeWidth file) (areaOf n s) true refl refl (sym holds))
+    sym
+    (alike file h start end (length numbers) n true k judged k true refl same refl
+    ∙ list-decides file h start end numbers s n (sym (b .read)) (sizeWidth file) (areaOf n s) true refl refl (sym holds))
 
 -- ---- and yes means equal numbers
 
@@ -232,18 +238,22 @@ holds-pairs w (suc n) area (a ∷ b ∷ ns) at e h =
     let p = holds-first w (drop at area) a (b ∷ ns) h in
     let q = holds-first w (drop (at + w) area) b ns (ap (λ (z : List ℕ). holdsNumbers w z (b ∷ ns)) (sym (drop-drop w at area)) ∙ p .others) in
     let twice : at + w + w ≡ at + 2 * w = omega arith in
-    let r : holdsNumbers w (drop (at + 2 * w) area) ns ≡ true = ap (λ (z : List ℕ). holdsNumbers w z ns) (sym (drop-drop w (at + w) area ∙ ap (λ (j : ℕ). drop j area) twice)) ∙ q .others in
+    let r : holdsNumbers w (drop (at + 2 * w) area) ns ≡ true = ap (λ (z : List ℕ). holdsNumbers w z ns)
+    (sym (drop-drop w (at + w) area ∙ ap (λ (j : ℕ). drop j area) twice))
+    ∙ q .others in
     let x : numberAt area at w ≡ a = sym (number-drop area at w) ∙ p .number in
     let y : numberAt area (at + w) w ≡ b = sym (number-drop area (at + w) w) ∙ q .number in
     ap₂ (λ (c : ℕ × ℕ) (m : List (ℕ × ℕ)). c ∷ m) (ap₂ (λ (c d : ℕ). (c, d)) x y) (holds-pairs w n area ns (at + 2 * w) (omega arith) r)
 
-pairs-of : (file : LargeFileFlag) (area ns : List ℕ) → length ns ≡ 2 * (length ns / 2) → length area ≡ sizeWidth file * length ns → holdsNumbers (sizeWidth file) area ns ≡ true → pairsOf file area ≡ byTurns ns
+pairs-of : (file : LargeFileFlag) (area ns : List ℕ) → length ns ≡ 2 * (length ns / 2) → length area ≡ sizeWidth file * length ns
+    → holdsNumbers (sizeWidth file) area ns ≡ true → pairsOf file area ≡ byTurns ns
 unfolding pairsOf
 pairs-of file area ns even whole h =
     ap (pairsFrom (sizeWidth file) area 0) (ap (λ (j : ℕ). j / pairSize file) whole ∙ halves file (length ns) even)
     ∙ holds-pairs (sizeWidth file) (length ns / 2) area ns 0 even h
 
-even-list : (file : LargeFileFlag) (h : PduHeader) (start end count : ℕ) (w : PduHeader) → accepted w ≡ judgingNak file h start end count → count ≡ 2 * (count / 2)
+even-list : (file : LargeFileFlag) (h : PduHeader) (start end count : ℕ) (w : PduHeader) → accepted w ≡ judgingNak file h start end count
+    → count ≡ 2 * (count / 2)
 unfolding judgingNak
 even-list file h start end count w e =
     let p = passed (directiveTests h ++ ownTests file start end count) w (filled file (count / 2) h) e in

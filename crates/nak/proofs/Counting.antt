@@ -83,8 +83,13 @@ module _ (h : PduHeader) (start end size n : ℕ) (scope : scopeFits (h .file) s
   counts : (Passed (directiveTests h) × (leastPacket h ≤ size)) × (n ≡ most-of)
   unfolding mostRequests
   counts =
-      let p = passed (directiveTests h ++ (packetTooSmall h size ∷ [])) n most-of (sym e) in
-      ((passed-first (directiveTests h) (packetTooSmall h size ∷ []) (p .0), ltb-false _ _ (passed-last (directiveTests h) (packetTooSmall h size ∷ []) (p .0) .0)), p .1)
+      let p = passed (directiveTests h ++ (packetTooSmall h size ∷ [])) n most-of (sym e) in (
+        (
+          passed-first (directiveTests h) (packetTooSmall h size ∷ []) (p .0),
+          ltb-false _ _ (passed-last (directiveTests h) (packetTooSmall h size ∷ []) (p .0) .0),
+        ),
+        p .1,
+      )
 
   fits : (m : ℕ) → m ≤ n → writingNak (h .file) h start end (2 * m) size ≡ accepted (ofPairs h m)
   unfolding writingNak

@@ -31,7 +31,8 @@ module _ (h : PduHeader) (content : List ℕ) (area stop : ℕ) (pb : area ≡ a
   pub scope-lies : 1 + 2 * sizeWidth (h .file) ≤ length content
   scope-lies = omega (arith, sym (area-is h (headerLength h) (sizeWidth (h .file)) refl refl))
 
-  pub nak-is : (w x y : ℕ) → stop ≡ dataEnd h → w ≡ sizeWidth (h .file) → x ≡ numberAt content 1 (sizeWidth (h .file)) → y ≡ numberAt content (1 + w) (sizeWidth (h .file))
+  pub nak-is : (w x y : ℕ) → stop ≡ dataEnd h → w ≡ sizeWidth (h .file) → x ≡ numberAt content 1 (sizeWidth (h .file))
+      → y ≡ numberAt content (1 + w) (sizeWidth (h .file))
       → record { header = h; start = x; end = y; area = area; stop = stop; count = (stop - area) / (2 * w) } ≡ nakIn h content
   unfolding nakIn
   nak-is w x y pe pw px py = rw (px, py, pb, pe, pw)

@@ -38,12 +38,16 @@ module _ (h : PduHeader) (n room : ℕ) (j : PduHeader) (pj : j ≡ towardsSende
     (k : PduHeader) (pk : k ≡ withData o j) where
   pub not-reserved : (ns : List ℕ) → told ns ≡ beginning k o room → told ns ≡ reserving h n room
   unfolding reserving filled
-  not-reserved ns e = refused-then _ (λ w. accepted (placed (w .header) n)) ns (judged-refused j (towardsSender (h .file) h) pj (tooMany (h .file) n ∷ []) _ o own k pk room ns e)
+  not-reserved ns e =
+      refused-then _ (λ w. accepted (placed (w .header) n)) ns
+      (judged-refused j (towardsSender (h .file) h) pj (tooMany (h .file) n ∷ []) _ o own k pk room ns e)
 
   pub reserved-is : (p : ℕ) (r : ReservedNak) → accepted p ≡ beginning k o room → r ≡ placed k n → accepted r ≡ reserving h n room
   unfolding reserving filled
   reserved-is p r e q =
-      ap accepted q ∙ accepted-then _ (λ w. accepted (placed (w .header) n)) (record { header = k; length = p }) (judged-passed j (towardsSender (h .file) h) pj (tooMany (h .file) n ∷ []) _ o own k pk room p e)
+      ap accepted q
+      ∙ accepted-then _ (λ w. accepted (placed (w .header) n)) (record { header = k; length = p })
+      (judged-passed j (towardsSender (h .file) h) pj (tooMany (h .file) n ∷ []) _ o own k pk room p e)
 
 -- ---- finishing
 
@@ -72,7 +76,8 @@ module _ (r : ReservedNak) (start end : ℕ) (s : List ℕ) (j : PduHeader) (pj 
   abbrev content : List ℕ
   content = nakData (h .file) start end (areaIn (keeping h n) s)
 
-  pub not-finished : (b ns : List ℕ) → told ns ≡ beginning k o (length s) → b ≡ begunMemory k o s → (told ns ≡ finishing r start end (length s)) × (b ≡ finishedMemory r start end s)
+  pub not-finished : (b ns : List ℕ) → told ns ≡ beginning k o (length s) → b ≡ begunMemory k o s
+      → (told ns ≡ finishing r start end (length s)) × (b ≡ finishedMemory r start end s)
   unfolding finishing finishedMemory filled
   not-finished b ns e q = write-refused j G pj T d o own k pk s content b ns e q
 
@@ -102,8 +107,10 @@ module _ (r : ReservedNak) (start end : ℕ) (s : List ℕ) (j : PduHeader) (pj 
     area-there = ap (λ (f : LargeFileFlag). headerLength k + 1 + 2 * sizeWidth f) flag ∙ omega arith
 
     pub finish-goes : (areaStart k ≤ length b) × Passed (scopeTooLarge (k .file) start end ∷ [])
-    finish-goes =
-        (omega (arith, within, ap length stored ∙ length-sets s 0 (headerBytes k)), rw flag (finish-fits (h .file) n start end (begun-passed j G pj T d o own k pk (length s) p e) .1))
+    finish-goes = (
+      omega (arith, within, ap length stored ∙ length-sets s 0 (headerBytes k)),
+      rw flag (finish-fits (h .file) n start end (begun-passed j G pj T d o own k pk (length s) p e) .1),
+    )
 
     -- the area of the header that is handed back
     area : areaIn (keeping h n) s ≡ take (n * pairSize (h .file)) (drop (areaStart k) s)
@@ -131,8 +138,10 @@ module _ (r : ReservedNak) (start end : ℕ) (s : List ℕ) (j : PduHeader) (pj 
         let lHS : length (H ++ S) ≡ areaStart k = length-append H S ∙ omega (arith, lH, scope-length (h .file) start end, area-there) in
         let e₁ : b₁ ≡ sets s 0 (H ++ S) = then-sets H S s a lH stored (q₁ ∙ ap (λ (f : LargeFileFlag). sets b a (scopeBytes f start end)) flag) in
         let e₂ : sets s 0 (H ++ S) ≡ sets s 0 ((H ++ S) ++ A) =
-        in-place (H ++ S) s (n * pairSize (h .file)) (omega (arith, lHS, within)) ∙ ap (λ (x : List ℕ). sets s 0 ((H ++ S) ++ x)) (ap (λ (j : ℕ). take (n * pairSize (h .file)) (drop j s)) lHS ∙ sym area) in
-        let e₃ : sets s 0 (H ++ (S ++ A)) ≡ sets b a (S ++ A) = sets-append H (S ++ A) s 0 ∙ ap₂ (λ (l : List ℕ) (i : ℕ). sets l i (S ++ A)) (sym stored) (zero-add (length H) ∙ lH) in
+        in-place (H ++ S) s (n * pairSize (h .file)) (omega (arith, lHS, within))
+        ∙ ap (λ (x : List ℕ). sets s 0 ((H ++ S) ++ x)) (ap (λ (j : ℕ). take (n * pairSize (h .file)) (drop j s)) lHS ∙ sym area) in
+        let e₃ : sets s 0 (H ++ (S ++ A)) ≡ sets b a (S ++ A) = sets-append H (S ++ A) s 0
+        ∙ ap₂ (λ (l : List ℕ) (i : ℕ). sets l i (S ++ A)) (sym stored) (zero-add (length H) ∙ lH) in
         e₁ ∙ e₂ ∙ ap (sets s 0) (append-assoc H S A) ∙ e₃
 
     pub finished : (b₁ b₂ : List ℕ) → b₁ ≡ sets b (headerLength k) (scopeBytes (k .file) start end) → b₂ ≡ sealedMemory k b₁
@@ -153,7 +162,9 @@ finish-writes r start end room w e =
     let half : (2 * n) / 2 ≡ n = omega arith in
     let even : (2 * n) % 2 ≡ 0 = omega arith in
     let own : Passed (ownTests (h .file) start end (2 * n)) = (rw (eq-eqb _ _ even), (p .own-passed .1 .0, (rw half (p .own-passed .0), tt))) in
-    ap accepted (p .handed-back) ∙ passes k (ownTests (h .file) start end (2 * n)) room (p .good) own (p .room-is) ∙ ap (λ (m : ℕ). writingPdu (filled (h .file) m h) (ownTests (h .file) start end (2 * n)) room) (sym half)
+    ap accepted (p .handed-back)
+    ∙ passes k (ownTests (h .file) start end (2 * n)) room (p .good) own (p .room-is)
+    ∙ ap (λ (m : ℕ). writingPdu (filled (h .file) m h) (ownTests (h .file) start end (2 * n)) room) (sym half)
 
 -- finished over the bytes of so many numbers it was written with these
 pub over-numbers : (r : ReservedNak) (start end : ℕ) (numbers s : List ℕ) (w : PduWritten) → length numbers ≡ 2 * r .count
@@ -165,7 +176,8 @@ over-numbers r start end numbers s w e f q =
     let k = keeping h (r .count) in
     let b : accepted w ≡ writingNak (h .file) h start end (length numbers) (length s) =
     finish-writes r start end (length s) w (sym q) ∙ ap (λ (c : ℕ). writingNak (h .file) h start end c (length s)) (sym e) in
-    let c : nakData (h .file) start end (areaIn k s) ≡ nakData (h .file) start end (numbersBytes (sizeWidth (h .file)) numbers) = ap (nakData (h .file) start end) f in
+    let c : nakData (h .file) start end (areaIn k s) ≡ nakData (h .file) start end (numbersBytes (sizeWidth (h .file)) numbers) = ap
+    (nakData (h .file) start end) f in
     record {
       answer = sym b;
       bytes =

@@ -59,17 +59,20 @@ pairs-at w (suc n) pre (a ∷ b ∷ ns) e h =
     let l3 : length ((pre ++ beBytes w a) ++ beBytes w b) ≡ length pre + 2 * w = simp (length-append, be-length) (omega arith) in
     let x : numberAt A (length pre) w ≡ a = number-back pre (beBytes w b ++ numbersBytes w ns) (length pre) w a refl (h 0) in
     let y : numberAt A (length pre + w) w ≡ b = rw s2 (number-back (pre ++ beBytes w a) (numbersBytes w ns) (length pre + w) w b l2 (h 1)) in
-    let t : pairsFrom w A (length pre + 2 * w) n ≡ byTurns ns = rw (s3, ← l3) (pairs-at w n ((pre ++ beBytes w a) ++ beBytes w b) ns (omega arith) (λ i. h (suc (suc i)))) in
+    let t : pairsFrom w A (length pre + 2 * w) n ≡ byTurns ns = rw (s3, ← l3)
+    (pairs-at w n ((pre ++ beBytes w a) ++ beBytes w b) ns (omega arith) (λ i. h (suc (suc i)))) in
     ap₂ (λ (p : ℕ × ℕ) (m : List (ℕ × ℕ)). p ∷ m) (ap₂ (λ (p q : ℕ). (p, q)) x y) t
 
 pub halves : (file : LargeFileFlag) (count : ℕ) → count ≡ 2 * (count / 2) → sizeWidth file * count / pairSize file ≡ count / 2
 halves Normal count e = omega arith
 halves Large count e = omega arith
 
-pub pairs-back : (file : LargeFileFlag) (ns : List ℕ) → length ns ≡ 2 * (length ns / 2) → Lent (sizeWidth file) ns → pairsOf file (numbersBytes (sizeWidth file) ns) ≡ byTurns ns
+pub pairs-back : (file : LargeFileFlag) (ns : List ℕ) → length ns ≡ 2 * (length ns / 2) → Lent (sizeWidth file) ns
+    → pairsOf file (numbersBytes (sizeWidth file) ns) ≡ byTurns ns
 unfolding pairsOf
 pairs-back file ns e h =
-    ap (pairsFrom (sizeWidth file) (numbersBytes (sizeWidth file) ns) 0) (ap (λ (j : ℕ). j / pairSize file) (numbers-length (sizeWidth file) ns) ∙ halves file (length ns) e)
+    ap (pairsFrom (sizeWidth file) (numbersBytes (sizeWidth file) ns) 0)
+    (ap (λ (j : ℕ). j / pairSize file) (numbers-length (sizeWidth file) ns) ∙ halves file (length ns) e)
     ∙ pairs-at (sizeWidth file) (length ns / 2) [] ns e h
 
 -- ---- how many pairs fit
@@ -149,11 +152,13 @@ module _ (k : PduHeader) (start end count : ℕ) (area t : List ℕ) (good : Pas
       let N = pduOver k (S ++ area) in
       let l : length (N ++ t) ≡ pduLength k + length t = length-append N t ∙ ap (λ (j : ℕ). j + length t) (over-length k (S ++ area) c-size) in
       sym (within (readAs k start end n) (N ++ t) before (omega (arith, end-sum k)))
-      ∙ content-there k S area t c-size (dataEnd k - areaStart k) (areaStart k) (omega (arith, area-there, scope-length (k .file) start end)) (omega (arith, size, whole, end-sum k))
+      ∙ content-there k S area t c-size (dataEnd k - areaStart k) (areaStart k) (omega (arith, area-there, scope-length (k .file) start end))
+      (omega (arith, size, whole, end-sum k))
 
 -- ---- what is written reads back
 
-small-length : (file : LargeFileFlag) (h : PduHeader) (start end count room : ℕ) (w : PduWritten) → ToWrite file h start end count room w → w .header .length < 2 ^ 16
+small-length : (file : LargeFileFlag) (h : PduHeader) (start end count room : ℕ) (w : PduWritten) → ToWrite file h start end count room w
+    → w .header .length < 2 ^ 16
 unfolding filled
 small-length file h start end count room w z = rw (z .header-is) (most-pairs-fit file (h .crc) .fit (count / 2) (z .own .fewer))
 
@@ -165,9 +170,12 @@ written-reads-back file h start end room numbers t w ends lent e =
     let f : sizeWidth file ≡ sizeWidth (k .file) = sym (ap sizeWidth (z .flag)) in
     let area = numbersBytes (sizeWidth (k .file)) numbers in
     let size : length area ≡ sizeWidth (k .file) * length numbers = numbers-length (sizeWidth (k .file)) numbers in
-    let whole : areaStart k + sizeWidth (k .file) * length numbers + crcLength (k .crc) ≡ pduLength k = ap (λ (u : ℕ). areaStart k + u * length numbers + crcLength (k .crc)) (sym f) ∙ z .whole in
+    let whole : areaStart k + sizeWidth (k .file) * length numbers + crcLength (k .crc) ≡ pduLength k = ap
+    (λ (u : ℕ). areaStart k + u * length numbers + crcLength (k .crc)) (sym f)
+    ∙ z .whole in
     let small = small-length file h start end (length numbers) room w z in
-    let scope : scopeFits (k .file) start end ≡ true = ap (λ (x : LargeFileFlag). scopeFits x start end) (z .flag) ∙ scope-passed file start end (ends 0) (ends 1) (z .own .scope) in
+    let scope : scopeFits (k .file) start end ≡ true = ap (λ (x : LargeFileFlag). scopeFits x start end) (z .flag)
+    ∙ scope-passed file start end (ends 0) (ends 1) (z .own .scope) in
     let is = over-area k start end (length numbers) area t (z .good) scope size whole small (length numbers / 2) in
     record {
       read = over-reads k start end (length numbers) area t (z .good) scope size whole small (z .own .even);
@@ -176,13 +184,15 @@ written-reads-back file h start end room numbers t w ends lent e =
     }
 
 -- the buffer that an accepted write leaves begins with the NAK's bytes
-pub begins-with : (file : LargeFileFlag) (h : PduHeader) (start end : ℕ) (numbers s : List ℕ) (w : PduWritten) → writingNak file h start end (length numbers) (length s) ≡ accepted w
+pub begins-with : (file : LargeFileFlag) (h : PduHeader) (start end : ℕ) (numbers s : List ℕ) (w : PduWritten)
+    → writingNak file h start end (length numbers) (length s) ≡ accepted w
     → nakMemory file h start end numbers s ≡ nakBytes (w .header) start end numbers ++ drop (length (nakBytes (w .header) start end numbers)) s
 unfolding nakMemory writingNak nakBytes nakOver
 begins-with file h start end numbers s w e =
     let over : LargeFileFlag → List ℕ = λ f. pduOver (w .header) (nakData f start end (numbersBytes (sizeWidth f) numbers)) in
     let z = to-write file h start end (length numbers) (length s) w (sym e) in
-    memory-has (filled file (length numbers / 2) h) (ownTests file start end (length numbers)) _ s w e ∙ ap (λ (f : LargeFileFlag). over f ++ drop (length (over f)) s) (sym (z .flag))
+    memory-has (filled file (length numbers / 2) h) (ownTests file start end (length numbers)) _ s w e
+    ∙ ap (λ (f : LargeFileFlag). over f ++ drop (length (over f)) s) (sym (z .flag))
 
 pub code-reads-back : CodeReadsBack
 code-reads-back file h start end numbers s w r ends lent e q =

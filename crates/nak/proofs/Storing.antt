@@ -50,13 +50,16 @@ data-length file start end area = simp (length-append, scope-length)
 -- ---- the numbers
 
 -- a turn of the loop over the numbers, and its end: what is left to do
-pub number-turn : (w at i v : ℕ) (l m ns : List ℕ) → w ≤ 8 → at + w * length ns ≤ length l → i < length ns → v ≡ getD ns i 0 → v < 256 ^ w → m ≡ bePut l (at + w * i) w v
+pub number-turn : (w at i v : ℕ) (l m ns : List ℕ) → w ≤ 8 → at + w * length ns ≤ length l → i < length ns → v ≡ getD ns i 0 → v < 256 ^ w
+    → m ≡ bePut l (at + w * i) w v
     → sets m (at + w * (i + 1)) (numbersBytes w (drop (i + 1) ns)) ≡ sets l (at + w * i) (numbersBytes w (drop i ns))
 unfolding numbersBytes
 number-turn w at i v l m ns small room h q f p =
     let k : w * (i + 1) ≤ w * length ns = mul-le-mul-left w (omega arith) in
     let e : at + w * (i + 1) ≡ at + w * i + length (beBytes w (getD ns i 0)) = omega (arith, be-length w (getD ns i 0)) in
-    let p′ : m ≡ sets l (at + w * i) (beBytes w (getD ns i 0)) = p ∙ put-sets l (at + w * i) w v small (omega arith) f ∙ ap (λ (x : ℕ). sets l (at + w * i) (beBytes w x)) q in
+    let p′ : m ≡ sets l (at + w * i) (beBytes w (getD ns i 0)) = p
+    ∙ put-sets l (at + w * i) w v small (omega arith) f
+    ∙ ap (λ (x : ℕ). sets l (at + w * i) (beBytes w x)) q in
     rw (p′, drop-cons ns i 0 h, sets-append, e, add-one)
 
 -- two numbers whose halves are exchanged
@@ -68,7 +71,8 @@ exchanged-pair n x y two v h k e p =
     (is, rw is (digits-lt h k))
 
 -- the same of two numbers, which are stored as one
-pub pair-turn : (w at i j k a b v : ℕ) (l m ns : List ℕ) → w + w ≤ 8 → at + w * length ns ≤ length l → suc i < length ns → j ≡ suc (suc i) → k ≡ at + w * i → a ≡ getD ns i 0 → b ≡ getD ns (suc i) 0
+pub pair-turn : (w at i j k a b v : ℕ) (l m ns : List ℕ) → w + w ≤ 8 → at + w * length ns ≤ length l → suc i < length ns → j ≡ suc (suc i)
+    → k ≡ at + w * i → a ≡ getD ns i 0 → b ≡ getD ns (suc i) 0
     → b < 256 ^ w → v ≡ a * 256 ^ w + b → v < 256 ^ (w + w) → m ≡ bePut l k (w + w) v
     → sets m (at + w * j) (numbersBytes w (drop j ns)) ≡ sets l (at + w * i) (numbersBytes w (drop i ns))
 unfolding numbersBytes
@@ -81,7 +85,8 @@ pair-turn w at i j k a b v l m ns small room h ej ek qa qb fb qv fv p =
     let twice : w * j ≡ w * i + (w + w) = ap (λ (n : ℕ). w * n) ej ∙ omega arith in
     let stored : m ≡ sets l (at + w * i) (x ++ y) = p ∙ put-sets l k (w + w) v small (omega arith) fv ∙ ap₂ (λ (n : ℕ) (b : List ℕ). sets l n b) ek both in
     let e : at + w * j ≡ at + w * i + length (x ++ y) = simp (length-append, be-length) (omega arith) in
-    let d : drop i ns ≡ getD ns i 0 ∷ getD ns (suc i) 0 ∷ drop (suc (suc i)) ns = drop-cons ns i 0 (omega arith) ∙ ap (λ (t : List ℕ). getD ns i 0 ∷ t) (drop-cons ns (suc i) 0 h) in
+    let d : drop i ns ≡ getD ns i 0 ∷ getD ns (suc i) 0 ∷ drop (suc (suc i)) ns = drop-cons ns i 0 (omega arith)
+    ∙ ap (λ (t : List ℕ). getD ns i 0 ∷ t) (drop-cons ns (suc i) 0 h) in
     ap (λ (n : ℕ). sets m (at + w * j) (numbersBytes w (drop n ns))) ej
     ∙ ap₂ (λ (b : List ℕ) (n : ℕ). sets b n rest) stored e
     ∙ sym (sets-append (x ++ y) rest l (at + w * i))
@@ -109,5 +114,7 @@ in-place xs s n h =
     let lX : length (xs ++ T) ≡ length xs + n = length-append xs T ∙ ap (λ (x : ℕ). length xs + x) lT in
     let left : sets s 0 xs ≡ xs ++ D = sets-eq xs s 0 (omega arith) ∙ ap (λ (j : ℕ). xs ++ drop j s) (zero-add (length xs)) in
     let right : sets s 0 (xs ++ T) ≡ (xs ++ T) ++ drop n D =
-    sets-eq (xs ++ T) s 0 (omega arith) ∙ ap (λ (j : ℕ). (xs ++ T) ++ drop j s) (zero-add (length (xs ++ T)) ∙ lX) ∙ ap (λ (z : List ℕ). (xs ++ T) ++ z) (sym (drop-drop n (length xs) s)) in
+    sets-eq (xs ++ T) s 0 (omega arith)
+    ∙ ap (λ (j : ℕ). (xs ++ T) ++ drop j s) (zero-add (length (xs ++ T)) ∙ lX)
+    ∙ ap (λ (z : List ℕ). (xs ++ T) ++ z) (sym (drop-drop n (length xs) s)) in
     left ∙ sym (right ∙ append-assoc xs T (drop n D) ∙ ap (λ (z : List ℕ). xs ++ z) (take-append-drop n D))

@@ -57,7 +57,8 @@ same-area s t n e =
     let there = accepted-shows s n e in
     accepted-shows (s ++ t) n (nak-demand3 .final s t f ∙ e) .area ∙ go (ltb (length s) (n .area)) refl (there .inside) ∙ sym (there .area)
   where
-    go : (c : Bool) → ltb (length s) (n .area) ≡ c → n .stop ≤ length s → take (n .stop - n .area) (drop (n .area) (s ++ t)) ≡ take (n .stop - n .area) (drop (n .area) s)
+    go : (c : Bool) → ltb (length s) (n .area) ≡ c → n .stop ≤ length s
+        → take (n .stop - n .area) (drop (n .area) (s ++ t)) ≡ take (n .stop - n .area) (drop (n .area) s)
     go true c i =
         let b : length s < n .area = ltb-true (length s) (n .area) c in
         let z : n .stop - n .area ≡ 0 = omega arith in

@@ -51,7 +51,8 @@ scope-fits file start end e =
     (size-fits file start (p .0), size-fits file end (p .1))
 
 -- of 64-bit numbers, what the test lets pass fits, and what fits passes
-pub scope-passed : (file : LargeFileFlag) (start end : ℕ) → start < 256 ^ 8 → end < 256 ^ 8 → Passed (scopeTooLarge file start end ∷ []) → scopeFits file start end ≡ true
+pub scope-passed : (file : LargeFileFlag) (start end : ℕ) → start < 256 ^ 8 → end < 256 ^ 8 → Passed (scopeTooLarge file start end ∷ [])
+    → scopeFits file start end ≡ true
 unfolding scopeFits
 scope-passed Normal start end a b p = not-false _ (p .0)
 scope-passed Large start end a b p = rw (fits-size Large start a, fits-size Large end b)
@@ -137,7 +138,8 @@ own-passed file start end count p =
       fewer = ltb-false _ _ (p .1 .1 .0);
     }
 
-pub own-pass : (file : LargeFileFlag) (start end count : ℕ) → count % 2 ≡ 0 → scopeFits file start end ≡ true → count / 2 ≤ mostPairs file → Passed (ownTests file start end count)
+pub own-pass : (file : LargeFileFlag) (start end count : ℕ) → count % 2 ≡ 0 → scopeFits file start end ≡ true → count / 2 ≤ mostPairs file
+    → Passed (ownTests file start end count)
 unfolding ownTests
 own-pass file start end count even scope few = (rw (eq-eqb _ _ even), (fits-passes file start end scope .0, (le-ltb _ _ few, tt)))
 
@@ -164,6 +166,7 @@ module _ {A : Type 0} (x : A) (file : LargeFileFlag) (n : ℕ) where
       unfolding finishTests
       finish-passes e = passed-after (tooMany file n ∷ []) (scopeTooLarge file start end ∷ []) p x (judged-passed (scopeTooLarge file start end ∷ []) e)
 
-pub finish-fits : (file : LargeFileFlag) (n start end : ℕ) → Passed (finishTests file n start end) → (n ≤ mostPairs file) × Passed (scopeTooLarge file start end ∷ [])
+pub finish-fits : (file : LargeFileFlag) (n start end : ℕ) → Passed (finishTests file n start end)
+    → (n ≤ mostPairs file) × Passed (scopeTooLarge file start end ∷ [])
 unfolding finishTests
 finish-fits file n start end p = (ltb-false _ _ (p .0), p .1)

@@ -56,7 +56,8 @@ module _ (file f : LargeFileFlag) (pf : file ≡ f) (s : List ℕ) (at : ℕ) (t
 
   -- read from a part of just its bytes
   pub offset-read : (r : ℕ) → r ≡ beAt (take (at + sizeWidth f - at) (drop at s)) 0 (sizeWidth f) → r ≡ numberAt s at (sizeWidth file)
-  offset-read r q = q ∙ part-read s at (sizeWidth f) (at + sizeWidth f) refl (size-high f) offset-there ∙ ap (λ (x : LargeFileFlag). numberAt s at (sizeWidth x)) (sym pf)
+  offset-read r q =
+      q ∙ part-read s at (sizeWidth f) (at + sizeWidth f) refl (size-high f) offset-there ∙ ap (λ (x : LargeFileFlag). numberAt s at (sizeWidth x)) (sym pf)
 
 -- ---- the pairs of an area, and one step
 
@@ -69,7 +70,8 @@ pub shows-pair : (a : List ℕ) (file : LargeFileFlag) (at : ℕ) → at + pairS
 unfolding nextRequest
 shows-pair a file at l = rw (le-leb _ _ l)
 
-pub next-pair : (a : List ℕ) (file : LargeFileFlag) (at w x y : ℕ) → w ≡ sizeWidth file → at + 2 * w ≤ length a → x ≡ numberAt a at (sizeWidth file) → y ≡ numberAt a (at + w) (sizeWidth file)
+pub next-pair : (a : List ℕ) (file : LargeFileFlag) (at w x y : ℕ) → w ≡ sizeWidth file → at + 2 * w ≤ length a → x ≡ numberAt a at (sizeWidth file)
+    → y ≡ numberAt a (at + w) (sizeWidth file)
     → Pair x y (record { at = at + 2 * w }) ≡ nextRequest a file at
 unfolding nextRequest
 next-pair a file at w x y e l p q =
@@ -85,7 +87,8 @@ next-end a file at w e l =
 -- ---- the walk
 
 -- from a position with n whole pairs and no more, n steps or more show exactly those
-walk-from : (a : List ℕ) (file : LargeFileFlag) (n rounds at : ℕ) → n ≤ rounds → at + n * pairSize file ≤ length a → length a < at + n * pairSize file + pairSize file
+walk-from : (a : List ℕ) (file : LargeFileFlag) (n rounds at : ℕ) → n ≤ rounds → at + n * pairSize file ≤ length a
+    → length a < at + n * pairSize file + pairSize file
     → walk a file rounds at ≡ pairsFrom (sizeWidth file) a at n
 unfolding nextRequest
 walk-from a file zero zero at r h k = refl

@@ -41,7 +41,8 @@ pub data-size : (file : LargeFileFlag) (crc : CrcFlag) (start end : ℕ) (number
     → length (nakData file start end (numbersBytes (sizeWidth file) numbers)) + crcLength crc ≡ dataLength file crc (length numbers / 2)
 unfolding dataLength
 data-size file crc start end numbers even =
-    omega (arith, data-length file start end (numbersBytes (sizeWidth file) numbers), numbers-length (sizeWidth file) numbers, doubled file (length numbers) even)
+    omega
+    (arith, data-length file start end (numbersBytes (sizeWidth file) numbers), numbers-length (sizeWidth file) numbers, doubled file (length numbers) even)
 
 filled-whole : (file : LargeFileFlag) (h : PduHeader) (count : ℕ) → count ≡ 2 * (count / 2)
     → areaStart (filled file (count / 2) h) + sizeWidth file * count + crcLength (filled file (count / 2) h .crc) ≡ pduLength (filled file (count / 2) h)
@@ -59,7 +60,8 @@ pub record ToWrite (file : LargeFileFlag) (h : PduHeader) (start end count room 
   pub room-is : pduLength (w .header) ≤ room
   pub whole : areaStart (w .header) + sizeWidth file * count + crcLength (w .header .crc) ≡ pduLength (w .header)
 
-pub to-write : (file : LargeFileFlag) (h : PduHeader) (start end count room : ℕ) (w : PduWritten) → accepted w ≡ writingNak file h start end count room → ToWrite file h start end count room w
+pub to-write : (file : LargeFileFlag) (h : PduHeader) (start end count room : ℕ) (w : PduWritten)
+    → accepted w ≡ writingNak file h start end count room → ToWrite file h start end count room w
 unfolding writingNak
 to-write file h start end count room w e =
     let F = filled file (count / 2) h in
@@ -77,7 +79,8 @@ to-write file h start end count room w e =
     }
 
 -- the numbers end with the data
-pub area-before : (file : LargeFileFlag) (h : PduHeader) (start end count room : ℕ) (w : PduWritten) → ToWrite file h start end count room w → areaStart (w .header) + sizeWidth file * count ≡ dataEnd (w .header)
+pub area-before : (file : LargeFileFlag) (h : PduHeader) (start end count room : ℕ) (w : PduWritten) → ToWrite file h start end count room w
+    → areaStart (w .header) + sizeWidth file * count ≡ dataEnd (w .header)
 area-before file h start end count room w z = omega (arith, z .whole, end-sum (w .header))
 
 -- ---- the needs of a writer: j is its header as the code has it, o what its own tests said, k the header that it begins with
@@ -119,7 +122,9 @@ module _ (file : LargeFileFlag) (h : PduHeader) (start end : ℕ) (numbers s : L
     goes = data-goes j (towardsSender file h) pj T d o own k pk s p b e q content size (headerLength k) refl
 
     long : length content ≡ 1 + 2 * sizeWidth file + sizeWidth file * length numbers
-    long = data-length file start end (numbersBytes (sizeWidth file) numbers) ∙ ap (λ (n : ℕ). 1 + 2 * sizeWidth file + n) (numbers-length (sizeWidth file) numbers)
+    long =
+        data-length file start end (numbersBytes (sizeWidth file) numbers)
+        ∙ ap (λ (n : ℕ). 1 + 2 * sizeWidth file + n) (numbers-length (sizeWidth file) numbers)
 
     pub scope-goes : (areaStart k ≤ length b) × Passed (scopeTooLarge (k .file) start end ∷ [])
     scope-goes = (omega (arith, area-there, goes, long), rw flag (z .scope))
@@ -136,13 +141,17 @@ module _ (file : LargeFileFlag) (h : PduHeader) (start end : ℕ) (numbers s : L
           let S = scopeBytes file start end in
           let N = numbersBytes (sizeWidth file) numbers in
           let at : a + length S ≡ n = omega (arith, area-there, scope-length file start end) in
-          let p₂ : b₂ ≡ sets b a (S ++ N) = e₂ ∙ ap₂ (λ (l : List ℕ) (i : ℕ). sets l i N) (q₁ ∙ ap (λ (f : LargeFileFlag). sets b a (scopeBytes f start end)) flag) (sym at) ∙ sym (sets-append S N b a) in
+          let p₂ : b₂ ≡ sets b a (S ++ N) = e₂
+          ∙ ap₂ (λ (l : List ℕ) (i : ℕ). sets l i N) (q₁ ∙ ap (λ (f : LargeFileFlag). sets b a (scopeBytes f start end)) flag) (sym at)
+          ∙ sym (sets-append S N b a) in
           write-done j (towardsSender file h) pj T d o own k pk s p b e q content size a refl b₂ b₃ p₂ e₃
 
 -- with no list nothing stands between the scope and the checksum
-pub none-written : (file : LargeFileFlag) (h : PduHeader) (start end : ℕ) (s : List ℕ) (j : PduHeader) → j ≡ towardsSender file h → (o : Answer ℕ) → o ≡ firstOf (ownTests file start end 0) (dataLength file (h .crc) (0 / 2))
+pub none-written : (file : LargeFileFlag) (h : PduHeader) (start end : ℕ) (s : List ℕ) (j : PduHeader) → j ≡ towardsSender file h → (o : Answer ℕ)
+    → o ≡ firstOf (ownTests file start end 0) (dataLength file (h .crc) (0 / 2))
     → (k : PduHeader) → k ≡ withData o j → (p : ℕ) (b : List ℕ) → accepted p ≡ beginning k o (length s) → b ≡ begunMemory k o s
     → (b₁ b₂ : List ℕ) → b₁ ≡ sets b (headerLength k) (scopeBytes (k .file) start end) → b₂ ≡ sealedMemory k b₁
     → (accepted (record { header = k; length = p }) ≡ writingNak file h start end 0 (length s)) × (b₂ ≡ nakMemory file h start end [] s)
 unfolding numbersBytes
-none-written file h start end s j pj o own k pk p b e q b₁ b₂ q₁ e₂ = nak-written file h start end [] s j pj o own k pk p b e q b₁ q₁ (areaStart k) b₁ b₂ refl refl e₂
+none-written file h start end s j pj o own k pk p b e q b₁ b₂ q₁ e₂ =
+    nak-written file h start end [] s j pj o own k pk p b e q b₁ q₁ (areaStart k) b₁ b₂ refl refl e₂

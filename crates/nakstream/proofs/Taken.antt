@@ -10,7 +10,8 @@ use Rattle.receiver.specs.declared.Received.{Received}
 use Rattle.receiver.specs.Receiving.{Call, call, callOf}
 use Rattle.receiver.proofs.Calls.{taken-inside}
 
-pub stays-inside : (got : Received) (w : List ℕ) (r : Receiver) (f : List ℕ) (at : ℕ) → at ≤ length f → callOf got w ≡ call r (take (length f - at) (drop at f)) → at + got .taken ≤ length f
+pub stays-inside : (got : Received) (w : List ℕ) (r : Receiver) (f : List ℕ) (at : ℕ) → at ≤ length f
+    → callOf got w ≡ call r (take (length f - at) (drop at f)) → at + got .taken ≤ length f
 stays-inside got w r f at h e =
     let g = take (length f - at) (drop at f) in
     let i : got .taken ≤ length g = subst (λ (n : ℕ). n ≤ length g) (sym (ap (λ (c : Call). c .taken) e)) (taken-inside r g) in

@@ -30,11 +30,16 @@ regroup true true true x j g e = ap (λ (c : Bool). c && j) e
 
 module _ (most : ℕ) (received : List ℕ) (start end : ℕ) (requests naks : List ℕ) (a : apart (twos received) ≡ true) (small : end ≤ largest) (bounded : Numbers64 requests) where
   accept-is : acceptsNumbers most received start end requests naks
-      ≡ (eqb (length naks % 3) 0 && (eachFits most (threes naks) && (eachWithin (threes naks) (twos requests) && (samePairs (twos requests) (gaps start end (twos received)) && scopesJoin start end (threes naks)))))
+      ≡
+      (eqb (length naks % 3) 0 &&
+      (eachFits most (threes naks) &&
+      (eachWithin (threes naks) (twos requests) && (samePairs (twos requests) (gaps start end (twos received)) && scopesJoin start end (threes naks)))))
   unfolding accepts acceptsNumbers
   accept-is =
       ap (λ (c : Bool). eqb (length naks % 3) 0 && c)
-      (regroup (eachFits most (threes naks)) (apart (twos requests)) (eachWithin (threes naks) (twos requests)) (exactly (twos received) start end (twos requests)) (scopesJoin start end (threes naks)) (samePairs (twos requests) (gaps start end (twos received)))
+      (regroup (eachFits most (threes naks)) (apart (twos requests)) (eachWithin (threes naks) (twos requests))
+      (exactly (twos received) start end (twos requests)) (scopesJoin start end (threes naks))
+      (samePairs (twos requests) (gaps start end (twos received)))
       (apart-exactly (twos received) start end (apart-says (twos received) a) small requests bounded))
 
   pub odd-threes : (length naks % 3 ≡ 0 → ⊥) → false ≡ acceptsNumbers most received start end requests naks
@@ -52,7 +57,8 @@ module _ (most : ℕ) (received : List ℕ) (start end : ℕ) (requests naks : L
         pub not-gaps : samePairs (twos requests) (gaps start end (twos received)) ≡ false → false ≡ acceptsNumbers most received start end requests naks
         not-gaps n = sym (accept-is ∙ rw (eq-eqb _ _ w, f, i, n))
 
-        pub as-joined : (r : Bool) → samePairs (twos requests) (gaps start end (twos received)) ≡ true → r ≡ scopesJoin start end (threes naks) → r ≡ acceptsNumbers most received start end requests naks
+        pub as-joined : (r : Bool) → samePairs (twos requests) (gaps start end (twos received)) ≡ true → r ≡ scopesJoin start end (threes naks)
+            → r ≡ acceptsNumbers most received start end requests naks
         as-joined r n j = j ∙ sym (accept-is ∙ rw (eq-eqb _ _ w, f, i, n))
 
 -- ---- the clauses of an accepted plan, apart
@@ -68,8 +74,11 @@ module _ (most : ℕ) (received : List (ℕ × ℕ)) (start end : ℕ) (p : Plan
   pub clauses : accepts most received start end p ≡ true → Clauses most received start end p
   unfolding accepts
   clauses e =
-      let a = both-true (eachFits most (p .naks) && apart (p .requests) && eachWithin (p .naks) (p .requests) && exactly received start end (p .requests)) (scopesJoin start end (p .naks)) e in
-      let b = both-true (eachFits most (p .naks) && apart (p .requests) && eachWithin (p .naks) (p .requests)) (exactly received start end (p .requests)) (a .0) in
+      let a = both-true
+      (eachFits most (p .naks) && apart (p .requests) && eachWithin (p .naks) (p .requests) && exactly received start end (p .requests))
+      (scopesJoin start end (p .naks)) e in
+      let b = both-true (eachFits most (p .naks) && apart (p .requests) && eachWithin (p .naks) (p .requests))
+      (exactly received start end (p .requests)) (a .0) in
       let c = both-true (eachFits most (p .naks) && apart (p .requests)) (eachWithin (p .naks) (p .requests)) (b .0) in
       let d = both-true (eachFits most (p .naks)) (apart (p .requests)) (c .0) in
       record { fit = d .0; apart-are = d .1; within = c .1; exact = b .1; join = a .1 }

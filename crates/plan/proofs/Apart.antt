@@ -51,7 +51,8 @@ module _ (ns : List ℕ) (i e : ℕ) where
     pub behind-empty : getD ns (i + 1) 0 ≤ getD ns i 0 → apartBehind e (twos (drop i ns)) ≡ false
     behind-empty k = rw (twos-pair ns i h, le-ltb _ _ k, and-false)
 
-    pub behind-on : e < getD ns i 0 → getD ns i 0 < getD ns (i + 1) 0 → apartBehind e (twos (drop i ns)) ≡ apartBehind (getD ns (i + 1) 0) (twos (drop (i + 2) ns))
+    pub behind-on : e < getD ns i 0 → getD ns i 0 < getD ns (i + 1) 0
+        → apartBehind e (twos (drop i ns)) ≡ apartBehind (getD ns (i + 1) 0) (twos (drop (i + 2) ns))
     behind-on k l = rw (twos-pair ns i h, lt-ltb _ _ k, lt-ltb _ _ l)
 
 module _ (ns : List ℕ) where

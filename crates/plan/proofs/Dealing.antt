@@ -58,7 +58,8 @@ pub gaps-below : (at stop : ℕ) (ps : List (ℕ × ℕ)) → Below stop (gaps a
 gaps-below at stop [] = rw (gaps-none at stop) (front-below at stop stop [] (omega arith) tt)
 gaps-below at stop (p ∷ ps) =
     rw (gaps-some at stop p ps)
-    (front-below at (if leb stop (p .0) then stop else p .0) stop (gaps (if leb at (p .1) then p .1 else at) stop ps) (lesser stop (p .0) .first) (gaps-below (if leb at (p .1) then p .1 else at) stop ps))
+    (front-below at (if leb stop (p .0) then stop else p .0) stop (gaps (if leb at (p .1) then p .1 else at) stop ps) (lesser stop (p .0) .first)
+    (gaps-below (if leb at (p .1) then p .1 else at) stop ps))
 
 -- ---- rising requests, of which the first k + 1 are taken
 
@@ -84,16 +85,19 @@ below-drop (suc k) end (p ∷ ps) h = below-drop k end ps (h .1)
 
 within-front : (k low e : ℕ) (ps : List (ℕ × ℕ)) → Rising e ps → low ≤ e → k < length ps → allWithin low (firstEnd (drop k ps)) (take (suc k) ps) ≡ true
 within-front k low e [] h m l = absurd (let b : ⊥ = omega arith in b)
-within-front zero low e (p ∷ ps) h m l = and-true _ true (and-true (leb low (p .0)) (leb (p .1) (p .1)) (le-leb low (p .0) (omega (arith, h .0))) (le-leb (p .1) (p .1) (omega arith))) refl
+within-front zero low e (p ∷ ps) h m l =
+    and-true _ true (and-true (leb low (p .0)) (leb (p .1) (p .1)) (le-leb low (p .0) (omega (arith, h .0))) (le-leb (p .1) (p .1) (omega arith))) refl
 within-front (suc k) low e (p ∷ ps) h m l =
     and-true (leb low (p .0) && leb (p .1) (firstEnd (drop k ps))) (allWithin low (firstEnd (drop k ps)) (take (suc k) ps))
-    (and-true (leb low (p .0)) (leb (p .1) (firstEnd (drop k ps))) (le-leb low (p .0) (omega (arith, h .0))) (le-leb _ _ (end-least k (p .1) ps (h .2) (omega arith))))
+    (and-true (leb low (p .0)) (leb (p .1) (firstEnd (drop k ps))) (le-leb low (p .0) (omega (arith, h .0)))
+    (le-leb _ _ (end-least k (p .1) ps (h .2) (omega arith))))
     (within-front k low (p .1) ps (h .2) (omega (arith, h .0, h .1)) (omega arith))
 
 within-all : (low e end : ℕ) (ps : List (ℕ × ℕ)) → Rising e ps → low ≤ e → Below end ps → allWithin low end ps ≡ true
 within-all low e end [] h m b = refl
 within-all low e end (p ∷ ps) h m b =
-    and-true (leb low (p .0) && leb (p .1) end) (allWithin low end ps) (and-true (leb low (p .0)) (leb (p .1) end) (le-leb low (p .0) (omega (arith, h .0))) (le-leb _ _ (b .0)))
+    and-true (leb low (p .0) && leb (p .1) end) (allWithin low end ps)
+    (and-true (leb low (p .0)) (leb (p .1) end) (le-leb low (p .0) (omega (arith, h .0))) (le-leb _ _ (b .0)))
     (within-all low (p .1) end ps (h .2) (omega (arith, h .0, h .1)) (b .1))
 
 -- ---- what holds where n NAKs are dealt
@@ -136,8 +140,11 @@ module _ (n most left at end : ℕ) (ps : List (ℕ × ℕ)) (r : Ready (suc (su
 pub dealt-fits : (n most left at end : ℕ) (ps : List (ℕ × ℕ)) → Ready n most left at end ps → eachFits most (dealt n most left at end ps) ≡ true
 unfolding dealt
 dealt-fits zero most left at end ps r = refl
-dealt-fits (suc zero) most left at end ps r = and-true (leb left most) true (le-leb left most (let u = r .upto in let e = suc-mul zero most in omega arith)) refl
-dealt-fits (suc (suc n)) most left at end ps r = and-true (leb most most) (eachFits most (dealt (suc n) most (left - most) (endOf most ps) end (drop most ps))) (le-leb most most (omega arith)) (dealt-fits (suc n) most (left - most) (endOf most ps) end (drop most ps) (ready-next n most left at end ps r))
+dealt-fits (suc zero) most left at end ps r =
+    and-true (leb left most) true (le-leb left most (let u = r .upto in let e = suc-mul zero most in omega arith)) refl
+dealt-fits (suc (suc n)) most left at end ps r =
+    and-true (leb most most) (eachFits most (dealt (suc n) most (left - most) (endOf most ps) end (drop most ps))) (le-leb most most (omega arith))
+    (dealt-fits (suc n) most (left - most) (endOf most ps) end (drop most ps) (ready-next n most left at end ps r))
 
 pub dealt-within : (n most left at end : ℕ) (ps : List (ℕ × ℕ)) → Ready n most left at end ps → eachWithin (dealt n most left at end ps) ps ≡ true
 unfolding dealt
@@ -145,20 +152,26 @@ dealt-within zero most left at end ps r = eq-eqb (length ps) 0 (let u = r .upto 
 dealt-within (suc zero) most left at end ps r =
     let e = r .count in
     and-true (leb left (length ps) && allWithin at end (take left ps)) (eqb (length (drop left ps)) 0)
-    (and-true (leb left (length ps)) (allWithin at end (take left ps)) (le-leb left (length ps) (omega arith)) (ap (λ (k : ℕ). allWithin at end (take k ps)) (sym e) ∙ ap (allWithin at end) (take-length ps) ∙ within-all at at end ps (r .rises) (omega arith) (r .below)))
+    (and-true (leb left (length ps)) (allWithin at end (take left ps)) (le-leb left (length ps) (omega arith))
+    (ap (λ (k : ℕ). allWithin at end (take k ps)) (sym e) ∙ ap (allWithin at end) (take-length ps) ∙ within-all at at end ps (r .rises) (omega arith) (r .below)))
     (eq-eqb (length (drop left ps)) 0 (omega (arith, length-drop left ps)))
 dealt-within (suc (suc n)) most left at end ps r =
-    and-true (leb most (length ps) && allWithin at (endOf most ps) (take most ps)) (eachWithin (dealt (suc n) most (left - most) (endOf most ps) end (drop most ps)) (drop most ps))
-    (and-true (leb most (length ps)) (allWithin at (endOf most ps) (take most ps)) (le-leb most (length ps) (omega (arith, more n most left at end ps r .0, r .count)))
-    (ap (λ (k : ℕ). allWithin at (endOf most ps) (take k ps)) (one-more n most left at end ps r) ∙ within-front (most - 1) at at ps (r .rises) (omega arith) (inside n most left at end ps r)))
+    and-true (leb most (length ps) && allWithin at (endOf most ps) (take most ps))
+    (eachWithin (dealt (suc n) most (left - most) (endOf most ps) end (drop most ps)) (drop most ps))
+    (and-true (leb most (length ps)) (allWithin at (endOf most ps) (take most ps))
+    (le-leb most (length ps) (omega (arith, more n most left at end ps r .0, r .count)))
+    (ap (λ (k : ℕ). allWithin at (endOf most ps) (take k ps)) (one-more n most left at end ps r)
+    ∙ within-front (most - 1) at at ps (r .rises) (omega arith) (inside n most left at end ps r)))
     (dealt-within (suc n) most (left - most) (endOf most ps) end (drop most ps) (ready-next n most left at end ps r))
 
 dealt-join : (n most left at end : ℕ) (ps : List (ℕ × ℕ)) → Ready (suc n) most left at end ps → joinFrom at end (dealt (suc n) most left at end ps) ≡ true
 unfolding dealt
-dealt-join zero most left at end ps r = and-true (eqb at at && leb at end) (eqb end end) (and-true (eqb at at) (leb at end) (eq-eqb at at refl) (le-leb at end (r .forwards))) (eq-eqb end end refl)
+dealt-join zero most left at end ps r =
+    and-true (eqb at at && leb at end) (eqb end end) (and-true (eqb at at) (leb at end) (eq-eqb at at refl) (le-leb at end (r .forwards))) (eq-eqb end end refl)
 dealt-join (suc n) most left at end ps r =
     and-true (eqb at at && leb at (endOf most ps)) (joinFrom (endOf most ps) end (dealt (suc n) most (left - most) (endOf most ps) end (drop most ps)))
-    (and-true (eqb at at) (leb at (endOf most ps)) (eq-eqb at at refl) (le-leb at (endOf most ps) (end-least (most - 1) at ps (r .rises) (inside n most left at end ps r))))
+    (and-true (eqb at at) (leb at (endOf most ps)) (eq-eqb at at refl)
+    (le-leb at (endOf most ps) (end-least (most - 1) at ps (r .rises) (inside n most left at end ps r))))
     (dealt-join n most (left - most) (endOf most ps) end (drop most ps) (ready-next n most left at end ps r))
 
 join-some : (at end : ℕ) (ns : List PlannedNak) → joinFrom at end ns ≡ true → scopesJoin at end ns ≡ true
@@ -184,7 +197,8 @@ naks-upto ranges most h = ⊎-elim (λ z. omega arith) some-ranges (eq? ranges 0
         let m : naksFor ranges most * most ≡ (ranges - 1) / most * most + most = ap (λ (x : ℕ). x * most) e ∙ suc-mul ((ranges - 1) / most) most in
         omega (arith, z, lt-div-mul-add {a = ranges - 1} p)
 
-pub ready-gaps : (most start end : ℕ) (ps rs : List (ℕ × ℕ)) → Apart ps → start ≤ end → rs ≡ gaps start end ps → (0 < length rs → 0 < most) → Ready (naksFor (length rs) most) most (length rs) start end rs
+pub ready-gaps : (most start end : ℕ) (ps rs : List (ℕ × ℕ)) → Apart ps → start ≤ end → rs ≡ gaps start end ps → (0 < length rs → 0 < most)
+    → Ready (naksFor (length rs) most) most (length rs) start end rs
 ready-gaps most start end ps rs h l e f = record {
   count = refl;
   enough = naks-enough (length rs) most f;

@@ -77,7 +77,10 @@ gaps-apart at stop (p ∷ ps) h =
 -- ---- and ask for exactly the missing bytes
 
 front-asks : (from to : ℕ) (rs : List (ℕ × ℕ)) (b : ℕ) → asks (front from to rs) b ≡ (leb from b && ltb b to || asks rs b)
-front-asks from to rs b = ⊎-elim (λ l. rw (lt-ltb from to l)) (λ l. ⊎-elim (λ k. rw (le-ltb from to l, lt-leb from b k)) (λ k. rw (le-ltb from to l, le-ltb b to (let z : to ≤ b = omega arith in z), and-false)) (lt? b from)) (lt? from to)
+front-asks from to rs b =
+    ⊎-elim (λ l. rw (lt-ltb from to l))
+    (λ l. ⊎-elim (λ k. rw (le-ltb from to l, lt-leb from b k)) (λ k. rw (le-ltb from to l, le-ltb b to (let z : to ≤ b = omega arith in z), and-false)) (lt? b from))
+    (lt? from to)
 
 asks-below : (e b : ℕ) (ps : List (ℕ × ℕ)) → ApartBehind e ps → b ≤ e → asks ps b ≡ false
 asks-below e b [] h l = refl
@@ -111,8 +114,10 @@ gaps-ask at stop [] b h = ap (λ (l : List (ℕ × ℕ)). asks l b) (gaps-none a
 gaps-ask at stop (p ∷ ps) b h =
     ap (λ (l : List (ℕ × ℕ)). asks l b) (gaps-some at stop p ps)
     ∙ front-asks at (if leb stop (p .0) then stop else p .0) (gaps (if leb at (p .1) then p .1 else at) stop ps) b
-    ∙ ap (λ (c : Bool). leb at b && ltb b (if leb stop (p .0) then stop else p .0) || c) (gaps-ask (if leb at (p .1) then p .1 else at) stop ps b (behind-apart (p .1) ps (h .1)))
-    ∙ turn at stop (p .0) (p .1) (if leb stop (p .0) then stop else p .0) (if leb at (p .1) then p .1 else at) b (lesser stop (p .0)) (greater at (p .1)) (h .0) (asks ps b) (λ k. asks-below (p .1) b ps (h .1) k)
+    ∙ ap (λ (c : Bool). leb at b && ltb b (if leb stop (p .0) then stop else p .0) || c)
+    (gaps-ask (if leb at (p .1) then p .1 else at) stop ps b (behind-apart (p .1) ps (h .1)))
+    ∙ turn at stop (p .0) (p .1) (if leb stop (p .0) then stop else p .0) (if leb at (p .1) then p .1 else at) b (lesser stop (p .0))
+    (greater at (p .1)) (h .0) (asks ps b) (λ k. asks-below (p .1) b ps (h .1) k)
 
 missing-beyond : (ps : List (ℕ × ℕ)) (start end b : ℕ) → end ≤ b → missing ps start end b ≡ false
 missing-beyond ps start end b l = rw (le-ltb b end l, and-false)
@@ -168,7 +173,9 @@ pairs-same (p ∷ ps) (q ∷ qs) e =
 
 pub same-pairs : (ps : List (ℕ × ℕ)) → samePairs ps ps ≡ true
 same-pairs [] = refl
-same-pairs (p ∷ ps) = and-true (eqb (p .0) (p .0) && eqb (p .1) (p .1)) (samePairs ps ps) (and-true (eqb (p .0) (p .0)) (eqb (p .1) (p .1)) (eq-eqb (p .0) (p .0) refl) (eq-eqb (p .1) (p .1) refl)) (same-pairs ps)
+same-pairs (p ∷ ps) =
+    and-true (eqb (p .0) (p .0) && eqb (p .1) (p .1)) (samePairs ps ps)
+    (and-true (eqb (p .0) (p .0)) (eqb (p .1) (p .1)) (eq-eqb (p .0) (p .0) refl) (eq-eqb (p .1) (p .1) refl)) (same-pairs ps)
 
 -- ---- requests that are apart and exact
 

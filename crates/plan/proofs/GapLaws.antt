@@ -34,7 +34,8 @@ pub gaps-none : (at stop : ℕ) → gaps at stop [] ≡ front at stop []
 unfolding gaps
 gaps-none at stop = refl
 
-pub gaps-some : (at stop : ℕ) (p : ℕ × ℕ) (ps : List (ℕ × ℕ)) → gaps at stop (p ∷ ps) ≡ front at (if leb stop (p .0) then stop else p .0) (gaps (if leb at (p .1) then p .1 else at) stop ps)
+pub gaps-some : (at stop : ℕ) (p : ℕ × ℕ) (ps : List (ℕ × ℕ))
+    → gaps at stop (p ∷ ps) ≡ front at (if leb stop (p .0) then stop else p .0) (gaps (if leb at (p .1) then p .1 else at) stop ps)
 unfolding gaps
 gaps-some at stop p ps = refl
 

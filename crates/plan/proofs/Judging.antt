@@ -41,7 +41,8 @@ module _ (file : LargeFileFlag) (received : List ℕ) (start end requests : ℕ)
         unfolding planTests
         backwards n = rw (told-is-refused 23 _ refl, eq-eqb _ _ p, eq-eqb _ _ q, r, lt-leb _ _ n)
 
-        pub as-scope : (o : Answer (Unit {0})) → start ≤ end → o ≡ allOf (scopeTooLarge file start end ∷ []) → o ≡ allOf (planTests file received start end requests)
+        pub as-scope : (o : Answer (Unit {0})) → start ≤ end → o ≡ allOf (scopeTooLarge file start end ∷ [])
+            → o ≡ allOf (planTests file received start end requests)
         unfolding planTests
         as-scope o l e = e ∙ rw (eq-eqb _ _ p, eq-eqb _ _ q, r, le-leb _ _ l)
 
@@ -91,10 +92,13 @@ module _ (h : PduHeader) (size : ℕ) (received : List ℕ) (start end requests 
       }
 
   -- and so it is where only the count of the requests is another, and even
-  pub good-again : (most : ℕ) → Good h size received start end requests most → (count : ℕ) → count % 2 ≡ 0 → accepted most ≡ judgingPlan h size received start end count
+  pub good-again : (most : ℕ) → Good h size received start end requests most → (count : ℕ) → count % 2 ≡ 0
+      → accepted most ≡ judgingPlan h size received start end count
   unfolding judgingPlan planTests
   good-again most g count even =
-      sym (all-passed (planTests (h .file) received start end count) most (rw (eq-eqb _ _ (g .even-received)), (rw (eq-eqb _ _ even), (rw (g .are-apart, le-leb _ _ (g .forwards)), g .scope))))
+      sym
+      (all-passed (planTests (h .file) received start end count) most
+      (rw (eq-eqb _ _ (g .even-received)), (rw (eq-eqb _ _ even), (rw (g .are-apart, le-leb _ _ (g .forwards)), g .scope))))
       ∙ accepted-then (mostRequests h size) (λ most. firstOf (planTests (h .file) received start end count) most) most (g .most-is)
 
 -- ---- the check's own answer
@@ -103,11 +107,13 @@ module _ (h : PduHeader) (size : ℕ) (received : List ℕ) (start end : ℕ) (r
   abbrev verdict : ℕ → Answer Bool
   verdict most = accepted (acceptsNumbers most received start end requests naks)
 
-  pub check-refused : (ns : List ℕ) → told ns ≡ judgingPlan h size received start end (length requests) → told ns ≡ checkingPlan h size received start end requests naks
+  pub check-refused : (ns : List ℕ) → told ns ≡ judgingPlan h size received start end (length requests)
+      → told ns ≡ checkingPlan h size received start end requests naks
   unfolding checkingPlan
   check-refused ns e = refused-then (judgingPlan h size received start end (length requests)) verdict ns e
 
-  pub check-made : (most : ℕ) (b : Bool) → accepted most ≡ judgingPlan h size received start end (length requests) → b ≡ acceptsNumbers most received start end requests naks → accepted b ≡ checkingPlan h size received start end requests naks
+  pub check-made : (most : ℕ) (b : Bool) → accepted most ≡ judgingPlan h size received start end (length requests)
+      → b ≡ acceptsNumbers most received start end requests naks → accepted b ≡ checkingPlan h size received start end requests naks
   unfolding checkingPlan
   check-made most b e k = ap accepted k ∙ accepted-then (judgingPlan h size received start end (length requests)) verdict most e
 

@@ -38,7 +38,8 @@ module _ (ns : List ℕ) (at : ℕ) where
   pub threes-none : length ns - at ≤ 2 → threes (drop at ns) ≡ []
   threes-none h = threes-short (drop at ns) (let k : length (drop at ns) < 3 = omega (arith, length-drop at ns) in k)
 
-  pub threes-three : 2 < length ns - at → threes (drop at ns) ≡ record { start = getD ns at 0; end = getD ns (at + 1) 0; count = getD ns (at + 2) 0 } ∷ threes (drop (at + 3) ns)
+  pub threes-three : 2 < length ns - at
+      → threes (drop at ns) ≡ record { start = getD ns at 0; end = getD ns (at + 1) 0; count = getD ns (at + 2) 0 } ∷ threes (drop (at + 3) ns)
   threes-three h =
       let e : at + 1 ≡ suc at = omega arith in
       let e′ : at + 2 ≡ suc (suc at) = omega arith in
@@ -76,7 +77,8 @@ twos-drop (suc n) k ns = go (twos-drop n (k + 2) ns)
 pub none-left : (ns : List ℕ) (k : ℕ) → eqb (length (twos (drop k ns))) 0 ≡ ltb (length ns - k) 2
 none-left ns k =
     ap (λ (n : ℕ). eqb n 0) (twos-left ns k)
-    ∙ ⊎-elim (λ l. eq-eqb ((length ns - k) / 2) 0 (omega arith) ∙ sym (lt-ltb _ _ l)) (λ l. ne-eqb ((length ns - k) / 2) 0 (λ z. absurd (let b : ⊥ = omega arith in b)) ∙ sym (le-ltb _ _ l)) (lt? (length ns - k) 2)
+    ∙ ⊎-elim (λ l. eq-eqb ((length ns - k) / 2) 0 (omega arith) ∙ sym (lt-ltb _ _ l))
+    (λ l. ne-eqb ((length ns - k) / 2) 0 (λ z. absurd (let b : ⊥ = omega arith in b)) ∙ sym (le-ltb _ _ l)) (lt? (length ns - k) 2)
 
 -- an even count of numbers is those of its pairs
 pub pairs-back : (ns : List ℕ) → length ns % 2 ≡ 0 → pairNumbers (twos ns) ≡ ns

@@ -25,7 +25,10 @@ use Rattle.plan.proofs.Storing.{enough-more}
 -- ---- how many NAKs
 
 pub naks-none : (ranges most : ℕ) → ranges ≡ 0 → 0 ≡ naksFor ranges most
-naks-none ranges most e = sym (⊎-elim (λ z. ap (λ (x : ℕ). (ranges + most - 1) / x) z ∙ div-zero (ranges + most - 1)) (λ z. div-eq-of-lt (let l : ranges + most - 1 < most = omega (arith, z) in l)) (eq? most 0))
+naks-none ranges most e =
+    sym
+    (⊎-elim (λ z. ap (λ (x : ℕ). (ranges + most - 1) / x) z ∙ div-zero (ranges + most - 1))
+    (λ z. div-eq-of-lt (let l : ranges + most - 1 < most = omega (arith, z) in l)) (eq? most 0))
 
 pub naks-some : (ranges most : ℕ) → (ranges ≡ 0 → ⊥) → 0 < most → (ranges - 1) / most + 1 ≡ naksFor ranges most
 naks-some ranges most n p =
@@ -56,7 +59,10 @@ pub naks-positive : (ranges most : ℕ) → (0 < ranges → 0 < most) → 1 < na
 naks-positive ranges most h l = ⊎-elim (λ z. absurd (let b : ⊥ = omega (arith, naks-none ranges most z) in b)) (λ z. h (omega (arith, z))) (eq? ranges 0)
 
 pub fits-some : (most ranges : ℕ) → (not (eqb ranges 0) && eqb most 0) ≡ false → 0 < ranges → 0 < most
-fits-some most ranges e l = ⊎-elim (λ z. absurd (let w : true ≡ false = sym (rw (ne-eqb ranges 0 (λ y. let b : ⊥ = omega arith in b), eq-eqb most 0 z)) ∙ e in let q : _≡_ {A = ℕ} 0 1 = cc in let b : ⊥ = omega arith in b)) (λ z. omega (arith, z)) (eq? most 0)
+fits-some most ranges e l =
+    ⊎-elim
+    (λ z. absurd (let w : true ≡ false = sym (rw (ne-eqb ranges 0 (λ y. let b : ⊥ = omega arith in b), eq-eqb most 0 z)) ∙ e in let q : _≡_ {A = ℕ} 0 1 = cc in let b : ⊥ = omega arith in b))
+    (λ z. omega (arith, z)) (eq? most 0)
 
 pub none-zero : (most ranges : ℕ) → ranges ≡ 0 → false ≡ (not (eqb ranges 0) && eqb most 0)
 none-zero most ranges e = rw (eq-eqb ranges 0 e)
@@ -82,7 +88,8 @@ end-front k ps qs p l =
     ∙ first-front (drop (k - 1) ps) qs (let z : 0 < length (drop (k - 1) ps) = omega (arith, length-drop (k - 1) ps) in z)
 
 -- only the requests dealt out matter
-pub dealt-front : (n most left at end : ℕ) (ps qs : List (ℕ × ℕ)) → (1 < n → 0 < most) → (n - 1) * most ≤ length ps → dealt n most left at end (ps ++ qs) ≡ dealt n most left at end ps
+pub dealt-front : (n most left at end : ℕ) (ps qs : List (ℕ × ℕ)) → (1 < n → 0 < most) → (n - 1) * most ≤ length ps
+    → dealt n most left at end (ps ++ qs) ≡ dealt n most left at end ps
 unfolding dealt
 dealt-front zero most left at end ps qs h l = refl
 dealt-front (suc zero) most left at end ps qs h l = refl
@@ -93,8 +100,10 @@ dealt-front (suc (suc n)) most left at end ps qs h l =
     let e = end-front most ps qs p (m .0) in
     let k : (suc n - 1) * most ≤ length (drop most ps) = omega (arith, length-drop most ps, ap (λ (x : ℕ). x * most) z, m .1) in
     ap (λ (x : ℕ). record { start = at; end = x; count = most } ∷ dealt (suc n) most (left - most) x end (drop most (ps ++ qs))) e
-    ∙ ap (λ (x : List (ℕ × ℕ)). record { start = at; end = endOf most ps; count = most } ∷ dealt (suc n) most (left - most) (endOf most ps) end x) (drop-append-le most ps qs (m .0))
-    ∙ ap (λ (x : List PlannedNak). record { start = at; end = endOf most ps; count = most } ∷ x) (dealt-front (suc n) most (left - most) (endOf most ps) end (drop most ps) qs (λ y. p) k)
+    ∙ ap (λ (x : List (ℕ × ℕ)). record { start = at; end = endOf most ps; count = most } ∷ dealt (suc n) most (left - most) (endOf most ps) end x)
+    (drop-append-le most ps qs (m .0))
+    ∙ ap (λ (x : List PlannedNak). record { start = at; end = endOf most ps; count = most } ∷ x)
+    (dealt-front (suc n) most (left - most) (endOf most ps) end (drop most ps) qs (λ y. p) k)
 
 -- ---- numbers
 
@@ -117,10 +126,13 @@ module _ (s t : List ℕ) where
   Leaves o a s′ t′ = (a ≡ counted o) × ((s′ ≡ requestsAfter o s) × (t′ ≡ naksAfter o t))
 
   pub leaves-refused : (o : Answer Plan) (ns : List ℕ) → told ns ≡ o → Leaves o (told ns) s t
-  leaves-refused o ns e =
-      (refused-then o (λ p. accepted (length (p .requests), length (p .naks))) ns e, (told-leaves ns o (λ p. pairNumbers (p .requests)) s e, told-leaves ns o (λ p. nakNumbers (p .naks)) t e))
+  leaves-refused o ns e = (
+    refused-then o (λ p. accepted (length (p .requests), length (p .naks))) ns e,
+    (told-leaves ns o (λ p. pairNumbers (p .requests)) s e, told-leaves ns o (λ p. nakNumbers (p .naks)) t e),
+  )
 
-  pub leaves-made : (o : Answer Plan) (p : Plan) (s′ t′ : List ℕ) → accepted p ≡ o → length (pairNumbers (p .requests)) ≤ length s → length (nakNumbers (p .naks)) ≤ length t
+  pub leaves-made : (o : Answer Plan) (p : Plan) (s′ t′ : List ℕ) → accepted p ≡ o → length (pairNumbers (p .requests)) ≤ length s
+      → length (nakNumbers (p .naks)) ≤ length t
       → s′ ≡ sets s 0 (pairNumbers (p .requests)) → t′ ≡ sets t 0 (nakNumbers (p .naks)) → Leaves o (accepted (length (p .requests), length (p .naks))) s′ t′
   leaves-made o p s′ t′ e l m q r = (
     accepted-then o (λ p. accepted (length (p .requests), length (p .naks))) p e,
@@ -171,14 +183,16 @@ module _ (most start end : ℕ) (rs : List (ℕ × ℕ)) (s t : List ℕ) (n : �
             let z : 0 + length (pairNumbers rs) ≤ length s = omega (arith, requests-fit) in
             let front : s′ ≡ pairNumbers rs ++ drop (0 + length (pairNumbers rs)) s = q ∙ sets-eq (pairNumbers rs) s 0 z in
             ap (λ (x : List (ℕ × ℕ)). dealt p most n start end x) (ap twos front ∙ twos-front rs (drop (0 + length (pairNumbers rs)) s))
-            ∙ dealt-front p most n start end rs (twos (drop (0 + length (pairNumbers rs)) s)) (λ l. naks-positive n most h (rw parts at l)) (let z : (p - 1) * most ≤ length rs = rw (parts, ← is) (naks-enough n most h) in z)
+            ∙ dealt-front p most n start end rs (twos (drop (0 + length (pairNumbers rs)) s)) (λ l. naks-positive n most h (rw parts at l))
+            (let z : (p - 1) * most ≤ length rs = rw (parts, ← is) (naks-enough n most h) in z)
             ∙ ap₂ (λ (x y : ℕ). dealt x most y start end rs) parts-is is
 
         pub all-stored : (s′ t′ : List ℕ) → s′ ≡ sets s 0 (pairNumbers rs) → t′ ≡ sets t 0 (nakNumbers (dealt p most n start end (twos s′)))
             → Leaves s t made (accepted (n, p)) s′ t′
         unfolding planOf
         all-stored s′ t′ q r =
-            let m = leaves-made s t made (planOf most start end rs) s′ t′ plan-made requests-fit (omega (arith, nak-count parted, parted-count, parts-is)) q (r ∙ ap (λ (x : List PlannedNak). sets t 0 (nakNumbers x)) (naks-are s′ q)) in
+            let m = leaves-made s t made (planOf most start end rs) s′ t′ plan-made requests-fit
+            (omega (arith, nak-count parted, parted-count, parts-is)) q (r ∙ ap (λ (x : List PlannedNak). sets t 0 (nakNumbers x)) (naks-are s′ q)) in
             (ap₂ (λ (x y : ℕ). accepted (x, y)) is (parts-is ∙ sym parted-count) ∙ m .0, m .1)
 
 -- ---- above the judgement
@@ -187,9 +201,12 @@ module _ (h : PduHeader) (size : ℕ) (received : List ℕ) (start end : ℕ) (s
   abbrev with-most : ℕ → Answer Plan
   with-most most = planWith most start end (missingRanges (twos received) start end) (length s) (length t)
 
-  pub plan-refused : (ns : List ℕ) → told ns ≡ judgingPlan h size received start end (length s) → Leaves s t (planning h size received start end (length s) (length t)) (told ns) s t
+  pub plan-refused : (ns : List ℕ) → told ns ≡ judgingPlan h size received start end (length s)
+      → Leaves s t (planning h size received start end (length s) (length t)) (told ns) s t
   unfolding planning
-  plan-refused ns e = leaves-refused s t (planning h size received start end (length s) (length t)) ns (refused-then (judgingPlan h size received start end (length s)) with-most ns e)
+  plan-refused ns e =
+      leaves-refused s t (planning h size received start end (length s) (length t)) ns
+      (refused-then (judgingPlan h size received start end (length s)) with-most ns e)
 
   pub plan-judged : (most : ℕ) (a : Answer (ℕ × ℕ)) (s′ t′ : List ℕ) → accepted most ≡ judgingPlan h size received start end (length s)
       → Leaves s t (planWith most start end (missingRanges (twos received) start end) (length s) (length t)) a s′ t′

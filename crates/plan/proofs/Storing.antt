@@ -22,7 +22,9 @@ use Rattle.plan.proofs.GapLaws.{gaps-none, gaps-some}
 -- ---- counting gaps
 
 front-few : (from to : ℕ) (rs : List (ℕ × ℕ)) → length (front from to rs) ≤ length rs + 1
-front-few from to rs = ⊎-elim (λ l. rw (lt-ltb from to l) (let z : suc (length rs) ≤ length rs + 1 = omega arith in z)) (λ l. rw (le-ltb from to l) (let z : length rs ≤ length rs + 1 = omega arith in z)) (lt? from to)
+front-few from to rs =
+    ⊎-elim (λ l. rw (lt-ltb from to l) (let z : suc (length rs) ≤ length rs + 1 = omega arith in z))
+    (λ l. rw (le-ltb from to l) (let z : length rs ≤ length rs + 1 = omega arith in z)) (lt? from to)
 
 pub gaps-few : (at stop : ℕ) (ps : List (ℕ × ℕ)) → length (gaps at stop ps) ≤ length ps + 1
 gaps-few at stop [] = rw (gaps-none at stop) (front-few at stop [])
@@ -56,14 +58,18 @@ module _ (gs : List (ℕ × ℕ)) (from to : ℕ) (rest : List (ℕ × ℕ)) (e 
   pub store-none : (out : List ℕ) (k : ℕ) → to ≤ from → sets out k (pairNumbers gs) ≡ out
   store-none out k l = ap (λ (x : List (ℕ × ℕ)). sets out k (pairNumbers x)) (no-gap l)
 
-  pub store-one : (out out′ : List ℕ) (k : ℕ) → from < to → out′ ≡ sets out k (from ∷ to ∷ []) → sets out′ (k + 2) (pairNumbers rest) ≡ sets out k (pairNumbers gs)
+  pub store-one : (out out′ : List ℕ) (k : ℕ) → from < to → out′ ≡ sets out k (from ∷ to ∷ [])
+      → sets out′ (k + 2) (pairNumbers rest) ≡ sets out k (pairNumbers gs)
   store-one out out′ k l q =
       let z : k + 2 ≡ suc (suc k) = omega arith in
-      sym (ap (λ (x : List (ℕ × ℕ)). sets out k (pairNumbers x)) (one-gap l) ∙ sym (ap (λ (x : List ℕ). sets x (k + 2) (pairNumbers rest)) q ∙ ap (λ (n : ℕ). sets (sets out k (from ∷ to ∷ [])) n (pairNumbers rest)) z))
+      sym
+      (ap (λ (x : List (ℕ × ℕ)). sets out k (pairNumbers x)) (one-gap l)
+      ∙ sym (ap (λ (x : List ℕ). sets x (k + 2) (pairNumbers rest)) q ∙ ap (λ (n : ℕ). sets (sets out k (from ∷ to ∷ [])) n (pairNumbers rest)) z))
 
 -- ---- dealing
 
-dealt-suc : (n most left at end : ℕ) (ps : List (ℕ × ℕ)) → dealt (suc (suc n)) most left at end ps ≡ record { start = at; end = endOf most ps; count = most } ∷ dealt (suc n) most (left - most) (endOf most ps) end (drop most ps)
+dealt-suc : (n most left at end : ℕ) (ps : List (ℕ × ℕ))
+    → dealt (suc (suc n)) most left at end ps ≡ record { start = at; end = endOf most ps; count = most } ∷ dealt (suc n) most (left - most) (endOf most ps) end (drop most ps)
 unfolding dealt
 dealt-suc n most left at end ps = refl
 
@@ -82,11 +88,14 @@ module _ (n most left at end : ℕ) (ps : List (ℕ × ℕ)) where
   pub dealt-one : (n ≡ 0 → ⊥) → n ≤ 1 → dealt n most left at end ps ≡ record { start = at; end = end; count = left } ∷ []
   dealt-one z l = let e : n ≡ 1 = omega (arith, z) in ap (λ (x : ℕ). dealt x most left at end ps) e ∙ dealt-last most left at end ps
 
-  pub dealt-more : 1 < n → dealt n most left at end ps ≡ record { start = at; end = endOf most ps; count = most } ∷ dealt (n - 1) most (left - most) (endOf most ps) end (drop most ps)
+  pub dealt-more : 1 < n
+      → dealt n most left at end ps ≡ record { start = at; end = endOf most ps; count = most } ∷ dealt (n - 1) most (left - most) (endOf most ps) end (drop most ps)
   dealt-more l =
       let e : n ≡ suc (suc (n - 2)) = omega arith in
       let e′ : suc (n - 2) ≡ n - 1 = omega arith in
-      ap (λ (x : ℕ). dealt x most left at end ps) e ∙ dealt-suc (n - 2) most left at end ps ∙ ap (λ (x : ℕ). record { start = at; end = endOf most ps; count = most } ∷ dealt x most (left - most) (endOf most ps) end (drop most ps)) e′
+      ap (λ (x : ℕ). dealt x most left at end ps) e
+      ∙ dealt-suc (n - 2) most left at end ps
+      ∙ ap (λ (x : ℕ). record { start = at; end = endOf most ps; count = most } ∷ dealt x most (left - most) (endOf most ps) end (drop most ps)) e′
 
 -- requests enough for all NAKs but the last are enough for the first, and then for the others
 pub enough-more : (n most left : ℕ) → 1 < n → (n - 1) * most ≤ left → (most ≤ left) × ((n - 1 - 1) * most ≤ left - most)
@@ -110,7 +119,8 @@ module _ (ns : List ℕ) (k n most left at end : ℕ) (out : List ℕ) (i : ℕ)
   pub naks-last : (n ≡ 0 → ⊥) → n ≤ 1 → sets out i (at ∷ end ∷ left ∷ []) ≡ sets out i (nakNumbers (dealt n most left at end (twos (drop k ns))))
   naks-last z l = sym (ap (λ (x : List PlannedNak). sets out i (nakNumbers x)) (dealt-one n most left at end (twos (drop k ns)) z l))
 
-  pub naks-turn : (out′ : List ℕ) (to : ℕ) → 1 < n → 0 < most → k + 2 * most ≤ length ns → to ≡ getD ns (k + 2 * most - 1) 0 → out′ ≡ sets out i (at ∷ to ∷ most ∷ [])
+  pub naks-turn : (out′ : List ℕ) (to : ℕ) → 1 < n → 0 < most → k + 2 * most ≤ length ns → to ≡ getD ns (k + 2 * most - 1) 0
+      → out′ ≡ sets out i (at ∷ to ∷ most ∷ [])
       → sets out′ (i + 3) (nakNumbers (dealt (n - 1) most (left - most) to end (twos (drop (k + 2 * most) ns)))) ≡ sets out i (nakNumbers (dealt n most left at end (twos (drop k ns))))
   naks-turn out′ to l p m t q =
       let z : i + 3 ≡ suc (suc (suc i)) = omega arith in

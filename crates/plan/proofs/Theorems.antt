@@ -91,7 +91,8 @@ forward-drop zero ps h = h
 forward-drop (suc n) [] h = tt
 forward-drop (suc n) (p ∷ ps) h = forward-drop n ps (h .1)
 
-within-fit : (file : LargeFileFlag) (start end : ℕ) (ps : List (ℕ × ℕ)) → end < 256 ^ sizeWidth file → Forward ps → allWithin start end ps ≡ true → FitWidth file ps
+within-fit : (file : LargeFileFlag) (start end : ℕ) (ps : List (ℕ × ℕ)) → end < 256 ^ sizeWidth file → Forward ps → allWithin start end ps ≡ true
+    → FitWidth file ps
 within-fit file start end [] l f e = tt
 within-fit file start end (p ∷ ps) l f e =
     let a = both-true (leb start (p .0) && leb (p .1) end) (allWithin start end ps) e in
@@ -116,17 +117,21 @@ join-below at end (n ∷ ns) j =
 
 module _ (h : PduHeader) (size most start end : ℕ) (fit : scopeFits (h .file) start end ≡ true) (m : mostRequests h size ≡ accepted most) where
   -- one NAK, whose scope lies before the whole scope's end
-  one-written : (n : PlannedNak) (own : List (ℕ × ℕ)) → n .start ≤ end → n .end ≤ end → n .count ≤ most → length own ≡ n .count → Forward own → allWithin (n .start) (n .end) own ≡ true → Written h size n own
+  one-written : (n : PlannedNak) (own : List (ℕ × ℕ)) → n .start ≤ end → n .end ≤ end → n .count ≤ most → length own ≡ n .count → Forward own
+      → allWithin (n .start) (n .end) own ≡ true → Written h size n own
   one-written n own a b c d f w =
       let scope = scope-below (h .file) start end (n .start) (n .end) fit a b in
       let numbers : length (pairNumbers own) ≡ 2 * n .count = pair-count own ∙ ap (λ (x : ℕ). 2 * x) d in
       record {
         all-there = numbers;
         fit-width = within-fit (h .file) (n .start) (n .end) own (scope-fits (h .file) (n .start) (n .end) scope .1) f w;
-        is-written = ap (λ (x : ℕ). writingNak (h .file) h (n .start) (n .end) x size) numbers ∙ most-requests-fit h (n .start) (n .end) size most scope m .fit (n .count) c;
+        is-written =
+            ap (λ (x : ℕ). writingNak (h .file) h (n .start) (n .end) x size) numbers
+            ∙ most-requests-fit h (n .start) (n .end) size most scope m .fit (n .count) c;
       }
 
-  written-from : (at : ℕ) (ns : List PlannedNak) (ps : List (ℕ × ℕ)) → eachFits most ns ≡ true → Forward ps → eachWithin ns ps ≡ true → joinFrom at end ns ≡ true → OnEach (Written h size) ns ps
+  written-from : (at : ℕ) (ns : List PlannedNak) (ps : List (ℕ × ℕ)) → eachFits most ns ≡ true → Forward ps → eachWithin ns ps ≡ true
+      → joinFrom at end ns ≡ true → OnEach (Written h size) ns ps
   written-from at [] ps f v w j = tt
   written-from at (n ∷ ns) ps f v w j =
       let a = both-true (leb (n .count) most) (eachFits most ns) f in
@@ -135,10 +140,14 @@ module _ (h : PduHeader) (size most start end : ℕ) (fit : scopeFits (h .file) 
       let d = both-true (leb (n .count) (length ps) && allWithin (n .start) (n .end) (take (n .count) ps)) (eachWithin ns (drop (n .count) ps)) w in
       let e = both-true (leb (n .count) (length ps)) (allWithin (n .start) (n .end) (take (n .count) ps)) (d .0) in
       let s : n .start ≤ n .end = leb-true (n .start) (n .end) (c .1) in
-      let t : n .end ≤ end = join-below (n .end) end ns (b .1) in
-      (one-written n (take (n .count) ps) (omega arith) t (leb-true (n .count) most (a .0)) (take-count (n .count) ps (leb-true (n .count) (length ps) (e .0))) (forward-take (n .count) ps v) (e .1), written-from (n .end) ns (drop (n .count) ps) (a .1) (forward-drop (n .count) ps v) (d .1) (b .1))
+      let t : n .end ≤ end = join-below (n .end) end ns (b .1) in (
+        one-written n (take (n .count) ps) (omega arith) t (leb-true (n .count) most (a .0))
+            (take-count (n .count) ps (leb-true (n .count) (length ps) (e .0))) (forward-take (n .count) ps v) (e .1),
+        written-from (n .end) ns (drop (n .count) ps) (a .1) (forward-drop (n .count) ps v) (d .1) (b .1),
+      )
 
-  written-all : (ns : List PlannedNak) (ps : List (ℕ × ℕ)) → eachFits most ns ≡ true → Forward ps → eachWithin ns ps ≡ true → scopesJoin start end ns ≡ true → OnEach (Written h size) ns ps
+  written-all : (ns : List PlannedNak) (ps : List (ℕ × ℕ)) → eachFits most ns ≡ true → Forward ps → eachWithin ns ps ≡ true
+      → scopesJoin start end ns ≡ true → OnEach (Written h size) ns ps
   written-all [] ps f v w j = tt
   written-all (n ∷ ns) ps f v w j = written-from start (n ∷ ns) ps f v w j
 
@@ -147,7 +156,8 @@ accepted-written h size received start end requests naks small e =
     let j = judgement h size received start end requests naks true e in
     let k = numbers-clauses (j .most) received start end requests naks (sym (j .is)) in
     let fit = scope-passed (h .file) start end (omega (arith, j .judged .forwards)) (omega arith) (j .judged .scope) in
-    written-all h size (j .most) start end fit (sym (j .judged .most-is)) (threes naks) (twos requests) (k .fit) (apart-forward (twos requests) (apart-says (twos requests) (k .apart-are))) (k .within) (k .join)
+    written-all h size (j .most) start end fit (sym (j .judged .most-is)) (threes naks) (twos requests) (k .fit)
+    (apart-forward (twos requests) (apart-says (twos requests) (k .apart-are))) (k .within) (k .join)
 
 -- ---- our planner
 
@@ -188,8 +198,12 @@ module _ (h : PduHeader) (size : ℕ) (received : List ℕ) (start end requests 
     plan-accepted =
         let even : length (pairNumbers missed) % 2 ≡ 0 = (let c = pair-count missed in omega arith) in
         let whole : length (nakNumbers naks-of) % 3 ≡ 0 = (let c = nak-count naks-of in omega arith) in
-        let k : Clauses most (twos received) start end (record { requests = twos (pairNumbers missed); naks = threes (nakNumbers naks-of) }) = rw (twos-back missed, threes-back naks-of) plan-clauses in
-        sym (check-made h size received start end (pairNumbers missed) (nakNumbers naks-of) most true (good-again h size received start end requests most g (length (pairNumbers missed)) even) (sym (clauses-numbers most received start end (pairNumbers missed) (nakNumbers naks-of) whole k)))
+        let k : Clauses most (twos received) start end (record { requests = twos (pairNumbers missed); naks = threes (nakNumbers naks-of) }) = rw
+        (twos-back missed, threes-back naks-of) plan-clauses in
+        sym
+        (check-made h size received start end (pairNumbers missed) (nakNumbers naks-of) most true
+        (good-again h size received start end requests most g (length (pairNumbers missed)) even)
+        (sym (clauses-numbers most received start end (pairNumbers missed) (nakNumbers naks-of) whole k)))
 
     our-plan : OurPlan h size received start end (planOf most start end missed)
     unfolding planOf
@@ -197,9 +211,13 @@ module _ (h : PduHeader) (size : ℕ) (received : List ℕ) (start end requests 
         record {
           is-accepted = plan-accepted;
           one-each = refl;
-          rounded-up = λ m e. dealt-count (naksFor (length missed) most) most (length missed) start end missed ∙ ap (λ (x : ℕ). naksFor (length missed) x) (same-accepted most m (g .most-is ∙ e));
+          rounded-up =
+              λ m e. dealt-count (naksFor (length missed) most) most (length missed) start end missed
+              ∙ ap (λ (x : ℕ). naksFor (length missed) x) (same-accepted most m (g .most-is ∙ e));
           with-none = λ e. dealt-over (naksFor (length missed) most) most (length missed) start end missed (sym (naks-none (length missed) most (ap length e)));
-          all-written = λ small. rw (threes-back naks-of, twos-back missed) at (accepted-written h size received start end (pairNumbers missed) (nakNumbers naks-of) small plan-accepted);
+          all-written =
+              λ small. rw (threes-back naks-of, twos-back missed) at
+              (accepted-written h size received start end (pairNumbers missed) (nakNumbers naks-of) small plan-accepted);
         }
 
 pub planner : Planner
@@ -208,7 +226,9 @@ planner h size received start end requests naks p e =
     let rs = missingRanges (twos received) start end in
     let w = went (judgingPlan h size received start end requests) (λ most. planWith most start end rs requests naks) p (sym e) in
     let q = passed (noneFits (w .mid) (length rs) ∷ noRoom (w .mid) (length rs) requests naks ∷ []) p (planOf (w .mid) start end rs) (w .second) in
-    rw (q .1) (our-plan h size received start end requests (w .mid) (good h size received start end requests (w .mid) (w .first)) (fits-some (w .mid) (length rs) (q .0 .0)))
+    rw (q .1)
+    (our-plan h size received start end requests (w .mid) (good h size received start end requests (w .mid) (w .first))
+    (fits-some (w .mid) (length rs) (q .0 .0)))
 
 pub stored-accepted : StoredAccepted
 stored-accepted h size received start end s t p e =

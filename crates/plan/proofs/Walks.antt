@@ -33,7 +33,9 @@ module _ (ns : List ℕ) (k n start end : ℕ) where
 
   module _ (some : 0 < n) (h : 1 < length ns - k) where
     first : take n (twos (drop k ns)) ≡ (getD ns k 0, getD ns (k + 1) 0) ∷ take (n - 1) (twos (drop (k + 2) ns))
-    first = let e : n ≡ suc (n - 1) = omega arith in ap (λ (l : List (ℕ × ℕ)). take n l) (twos-pair ns k h) ∙ ap (λ (m : ℕ). take m ((getD ns k 0, getD ns (k + 1) 0) ∷ twos (drop (k + 2) ns))) e
+    first =
+        let e : n ≡ suc (n - 1) = omega arith in
+        ap (λ (l : List (ℕ × ℕ)). take n l) (twos-pair ns k h) ∙ ap (λ (m : ℕ). take m ((getD ns k 0, getD ns (k + 1) 0) ∷ twos (drop (k + 2) ns))) e
 
     pub within-low : getD ns k 0 < start → allWithin start end (take n (twos (drop k ns))) ≡ false
     within-low l = rw (first, lt-leb _ _ l)
@@ -41,7 +43,8 @@ module _ (ns : List ℕ) (k n start end : ℕ) where
     pub within-high : end < getD ns (k + 1) 0 → allWithin start end (take n (twos (drop k ns))) ≡ false
     within-high l = rw (first, lt-leb _ _ l, and-false)
 
-    pub within-on : start ≤ getD ns k 0 → getD ns (k + 1) 0 ≤ end → allWithin start end (take n (twos (drop k ns))) ≡ allWithin start end (take (n - 1) (twos (drop (k + 2) ns)))
+    pub within-on : start ≤ getD ns k 0 → getD ns (k + 1) 0 ≤ end
+        → allWithin start end (take n (twos (drop k ns))) ≡ allWithin start end (take (n - 1) (twos (drop (k + 2) ns)))
     within-on l m = rw (first, le-leb _ _ l, le-leb _ _ m)
 
 -- ---- each request in its NAK's scope
@@ -61,7 +64,8 @@ module _ (ns rs : List ℕ) (i k : ℕ) where
     each-lack l = step ∙ rw (twos-left rs k, lt-leb _ _ l)
 
     module _ (enough : getD ns (i + 2) 0 ≤ (length rs - k) / 2) where
-      pub each-out : allWithin (getD ns i 0) (getD ns (i + 1) 0) (take (getD ns (i + 2) 0) (twos (drop k rs))) ≡ false → eachWithin (threes (drop i ns)) (twos (drop k rs)) ≡ false
+      pub each-out : allWithin (getD ns i 0) (getD ns (i + 1) 0) (take (getD ns (i + 2) 0) (twos (drop k rs))) ≡ false
+          → eachWithin (threes (drop i ns)) (twos (drop k rs)) ≡ false
       each-out l = step ∙ rw (l, and-false)
 
       pub each-on : allWithin (getD ns i 0) (getD ns (i + 1) 0) (take (getD ns (i + 2) 0) (twos (drop k rs))) ≡ true
@@ -81,7 +85,8 @@ module _ (ns : List ℕ) (i at end : ℕ) where
     pub join-back : getD ns (i + 1) 0 < getD ns i 0 → joinFrom at end (threes (drop i ns)) ≡ false
     join-back k = rw (threes-three ns i h, lt-leb _ _ k, and-false)
 
-    pub join-on : getD ns i 0 ≡ at → getD ns i 0 ≤ getD ns (i + 1) 0 → joinFrom at end (threes (drop i ns)) ≡ joinFrom (getD ns (i + 1) 0) end (threes (drop (i + 3) ns))
+    pub join-on : getD ns i 0 ≡ at → getD ns i 0 ≤ getD ns (i + 1) 0
+        → joinFrom at end (threes (drop i ns)) ≡ joinFrom (getD ns (i + 1) 0) end (threes (drop (i + 3) ns))
     join-on k l = rw (threes-three ns i h, eq-eqb _ _ k, le-leb _ _ l)
 
 module _ (ns : List ℕ) (start end : ℕ) where

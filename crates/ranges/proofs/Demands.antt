@@ -55,8 +55,10 @@ pub record Through (s t : List ℕ) (room : ℕ) (c : Compared) : Type 0 where
 pub through : (s t : List ℕ) (room : ℕ) (c : Compared) → accepted c ≡ comparing s t room → Through s t room c
 unfolding comparing
 through s t room c e =
-    let w = went (run readingNak s) (λ m. andThen (run readingNak t) (λ n. comparingPairs (sameTransaction (m .header) (n .header)) (requestsIn m s) (requestsIn n t) room)) c e in
-    let v = went (run readingNak t) (λ n. comparingPairs (sameTransaction (w .mid .header) (n .header)) (requestsIn (w .mid) s) (requestsIn n t) room) c (w .second) in
+    let w = went (run readingNak s)
+    (λ m. andThen (run readingNak t) (λ n. comparingPairs (sameTransaction (m .header) (n .header)) (requestsIn m s) (requestsIn n t) room)) c e in
+    let v = went (run readingNak t) (λ n. comparingPairs (sameTransaction (w .mid .header) (n .header)) (requestsIn (w .mid) s) (requestsIn n t) room) c
+    (w .second) in
     record {
       nak₁ = w .mid;
       nak₂ = v .mid;
@@ -68,13 +70,15 @@ through s t room c e =
 abbrev pub pairTests : Bool → List (ℕ × ℕ) → List (ℕ × ℕ) → ℕ → List Test
 pairTests same ps qs room = pairOutOfOrder 1 ps ∷ pairOutOfOrder 2 qs ∷ transactionsDiffer same ∷ noRoom room (differences ps qs) ∷ []
 
-pub pairs-passed : (same : Bool) (ps qs : List (ℕ × ℕ)) (room : ℕ) (c : Compared) → accepted c ≡ comparingPairs same ps qs room → Passed (pairTests same ps qs room) × (c ≡ compared ps qs)
+pub pairs-passed : (same : Bool) (ps qs : List (ℕ × ℕ)) (room : ℕ) (c : Compared) → accepted c ≡ comparingPairs same ps qs room
+    → Passed (pairTests same ps qs room) × (c ≡ compared ps qs)
 unfolding comparingPairs
 pairs-passed same ps qs room c e = passed (pairTests same ps qs room) c (compared ps qs) e
 
 -- ---- what is found
 
-stored-front : (s t lent : List ℕ) (c : Compared) → accepted c ≡ comparing s t (length lent) → differMemory s t lent ≡ flat true (c .ranges) ++ drop (3 * length (c .ranges)) lent
+stored-front : (s t lent : List ℕ) (c : Compared) → accepted c ≡ comparing s t (length lent)
+    → differMemory s t lent ≡ flat true (c .ranges) ++ drop (3 * length (c .ranges)) lent
 unfolding differMemory
 stored-front s t lent c e =
     sym (accepted-leaves (comparing s t (length lent)) threes lent c e) ∙ ap (λ (n : ℕ). flat true (c .ranges) ++ drop n lent) (length-flat true (c .ranges))

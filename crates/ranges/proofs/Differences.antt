@@ -52,7 +52,8 @@ module _ (side : ℕ) where
   -- a byte lies in a range of that side exactly when the ranges give it that label
   covered-label : (e k b : ℕ) (rs : List Run) → (side ≡ 0 → ⊥) → ApartFrom e k rs → covered side rs b ≡ eqb (labelIn rs b) side
   covered-label e k b [] n h = sym (ne-eqb 0 side (λ z. n (sym z)))
-  covered-label e k b (range x y l ∷ rs) n h = let more = covered-label y l b rs n (h .4) in ⊎-elim (before more) (λ u. ⊎-elim (here u) (after more) (lt? b y)) (lt? b x)
+  covered-label e k b (range x y l ∷ rs) n h =
+      let more = covered-label y l b rs n (h .4) in ⊎-elim (before more) (λ u. ⊎-elim (here u) (after more) (lt? b y)) (lt? b x)
     where
       before : covered side rs b ≡ eqb (labelIn rs b) side → b < x → covered side (range x y l ∷ rs) b ≡ eqb (labelIn (range x y l ∷ rs) b) side
       before more u = covered-before x y l rs b u ∙ more ∙ ap (λ (z : ℕ). eqb z side) (sym (label-before x y l rs b u))
@@ -161,8 +162,14 @@ module _ (ps qs : List (ℕ × ℕ)) (fits₁ : EndsFit ps) (fits₂ : EndsFit q
       record {
         longest = differences-apart;
         sided = sided-from 0 0 (differences ps qs) differences-apart (λ b _. rw (label-is b) (label-most (asks ps b) (asks qs b)));
-        first = λ b. covered-label 1 0 0 b (differences ps qs) (λ z. omega arith) differences-apart ∙ ap (λ (z : ℕ). eqb z 1) (label-is b) ∙ first-only (asks ps b) (asks qs b);
-        second = λ b. covered-label 2 0 0 b (differences ps qs) (λ z. omega arith) differences-apart ∙ ap (λ (z : ℕ). eqb z 2) (label-is b) ∙ second-only (asks ps b) (asks qs b);
+        first =
+            λ b. covered-label 1 0 0 b (differences ps qs) (λ z. omega arith) differences-apart
+            ∙ ap (λ (z : ℕ). eqb z 1) (label-is b)
+            ∙ first-only (asks ps b) (asks qs b);
+        second =
+            λ b. covered-label 2 0 0 b (differences ps qs) (λ z. omega arith) differences-apart
+            ∙ ap (λ (z : ℕ). eqb z 2) (label-is b)
+            ∙ second-only (asks ps b) (asks qs b);
       }
 
 -- ---- nothing else

@@ -35,7 +35,8 @@ module _ (o : Answer Compared) (s : List ℕ) where
   pub refused-both : (ns : List ℕ) → told ns ≡ o → both (told ns) s
   refused-both ns e = (refused-then o (λ c. accepted (counted c)) ns e, told-leaves ns o threes s e)
 
-  pub accepted-both : (c : Compared) (d : Differences) (s′ : List ℕ) → accepted c ≡ o → d ≡ counted c → s′ ≡ threes c ++ drop (length (threes c)) s → both (accepted d) s′
+  pub accepted-both : (c : Compared) (d : Differences) (s′ : List ℕ) → accepted c ≡ o → d ≡ counted c → s′ ≡ threes c ++ drop (length (threes c)) s
+      → both (accepted d) s′
   accepted-both c d s′ e p q = (ap accepted p ∙ accepted-then o (λ c. accepted (counted c)) c e, q ∙ accepted-leaves o threes s c e)
 
 -- ---- the pairs of both
@@ -85,7 +86,9 @@ module _ (same : Bool) (ps qs : List (ℕ × ℕ)) (s : List ℕ) where
         module _ (one : same ≡ true) (n : ℕ) (many : n ≡ length (differences ps qs)) where
           room-told : length s / 3 < length (differences ps qs) → told (20 ∷ []) ≡ answer
           unfolding comparingPairs
-          room-told h = rw (told-is-refused 20 [] refl, eq-eqb (disorder ps) 0 right, eq-eqb (disorder qs) 0 second-right, one, lt-ltb (length s / 3) (length (differences ps qs)) h)
+          room-told h =
+              rw
+              (told-is-refused 20 [] refl, eq-eqb (disorder ps) 0 right, eq-eqb (disorder qs) 0 second-right, one, lt-ltb (length s / 3) (length (differences ps qs)) h)
 
           pub too-many : length s / 3 < n → both answer s (told (20 ∷ [])) s
           too-many h = refused-both answer s (20 ∷ []) (room-told (rw many at h))
@@ -99,7 +102,9 @@ module _ (same : Bool) (ps qs : List (ℕ × ℕ)) (s : List ℕ) where
           all-stored c d s′ k l h m =
               let g : length (differences ps qs) ≤ length s / 3 = rw many at h in
               accepted-both answer s (compared ps qs) (record { first = c; second = d; ranges = n }) s′ (found-told g) (rw (k, l, many))
-              (m ∙ laid-all true s (differences ps qs) (omega (arith, div-mul-le-self (length s) 3)) ∙ ap (λ (x : ℕ). flat true (differences ps qs) ++ drop x s) (sym (length-flat true (differences ps qs))))
+              (m
+              ∙ laid-all true s (differences ps qs) (omega (arith, div-mul-le-self (length s) 3))
+              ∙ ap (λ (x : ℕ). flat true (differences ps qs) ++ drop x s) (sym (length-flat true (differences ps qs))))
 
 -- ---- the readings
 
@@ -118,15 +123,20 @@ module _ (m : Nak) (s t lent : List ℕ) where
         rw (one, p, q)
         (accepted-then (run readingNak t) (λ n. comparingPairs (sameTransaction (m .header) (n .header)) (requestsIn m s) (requestsIn n t) (length lent)) n e)
 
-    pub second-read : (r : Answer Differences) (lent′ : List ℕ) → both (comparingPairs same (pairsOf (m .header .file) a) (pairsOf (n .header .file) b) (length lent)) lent r lent′
+    pub second-read : (r : Answer Differences) (lent′ : List ℕ)
+        → both (comparingPairs same (pairsOf (m .header .file) a) (pairsOf (n .header .file) b) (length lent)) lent r lent′
         → both (comparingRead m s t (length lent)) lent r lent′
-    second-read r lent′ h =
-        (h .0 ∙ ap (λ (x : Answer Compared). andThen x (λ c. accepted (counted c))) are-read, h .1 ∙ ap (λ (x : Answer Compared). leaves x threes lent) are-read)
+    second-read r lent′ h = (
+      h .0 ∙ ap (λ (x : Answer Compared). andThen x (λ c. accepted (counted c))) are-read,
+      h .1 ∙ ap (λ (x : Answer Compared). leaves x threes lent) are-read,
+    )
 
 module _ (s t lent : List ℕ) where
-  whole : (o : Answer Compared) → o ≡ comparing s t (length lent) → (r : Answer Differences) (lent′ : List ℕ) → both o lent r lent′ → (r ≡ differing s t (length lent)) × (lent′ ≡ differMemory s t lent)
+  whole : (o : Answer Compared) → o ≡ comparing s t (length lent) → (r : Answer Differences) (lent′ : List ℕ) → both o lent r lent′
+      → (r ≡ differing s t (length lent)) × (lent′ ≡ differMemory s t lent)
   unfolding differing differMemory
-  whole o e r lent′ h = (h .0 ∙ ap (λ (x : Answer Compared). andThen x (λ c. accepted (counted c))) e, h .1 ∙ ap (λ (x : Answer Compared). leaves x threes lent) e)
+  whole o e r lent′ h =
+      (h .0 ∙ ap (λ (x : Answer Compared). andThen x (λ c. accepted (counted c))) e, h .1 ∙ ap (λ (x : Answer Compared). leaves x threes lent) e)
 
   pub first-refused : (ns : List ℕ) → told ns ≡ run readingNak s → (told ns ≡ differing s t (length lent)) × (lent ≡ differMemory s t lent)
   unfolding comparing

@@ -58,23 +58,32 @@ refused-told n ms o z e = told-is-refused n ms z ∙ e
 module _ (rule : Rule) (f : FirstNak) (qs : List (ℕ × ℕ)) (m : List ℕ) (n : ℕ) (e : n ≡ length (merged rule (rangesIn m) qs)) where
   many-is : most < n → refused (27 ∷ []) ≡ owingWith rule f qs m
   unfolding owingWith
-  many-is h = let k : most < length (spans (merged rule (rangesIn m) qs)) = omega (arith, length-spans (merged rule (rangesIn m) qs)) in rw (lt-ltb most (length (spans (merged rule (rangesIn m) qs))) k)
+  many-is h =
+      let k : most < length (spans (merged rule (rangesIn m) qs)) = omega (arith, length-spans (merged rule (rangesIn m) qs)) in
+      rw (lt-ltb most (length (spans (merged rule (rangesIn m) qs))) k)
 
   pub owe-many : most < n → Taken (told (27 ∷ [])) m (owingWith rule f qs m) m
   owe-many h = refused-entry (27 ∷ []) (owingWith rule f qs m) m (refused-told 27 [] (owingWith rule f qs m) refl (many-is h))
 
   done-is : n ≤ most → accepted (record { ranges = spans (merged rule (rangesIn m) qs); first = f }) ≡ owingWith rule f qs m
   unfolding owingWith
-  done-is h = let k : length (spans (merged rule (rangesIn m) qs)) ≤ most = omega (arith, length-spans (merged rule (rangesIn m) qs)) in rw (le-ltb most (length (spans (merged rule (rangesIn m) qs))) k)
+  done-is h =
+      let k : length (spans (merged rule (rangesIn m) qs)) ≤ most = omega (arith, length-spans (merged rule (rangesIn m) qs)) in
+      rw (le-ltb most (length (spans (merged rule (rangesIn m) qs))) k)
 
-  pub owe-done : (x m′ : List ℕ) → n ≤ most → x ≡ laid false (replicate stateSize 0) 0 (merged rule (rangesIn m) qs) → m′ ≡ headPut x n f → Taken (accepted tt) m′ (owingWith rule f qs m) m
-  owe-done x m′ h l k = (ap judgedOnly (done-is h), k ∙ ap (λ (y : List ℕ). headPut y n f) l ∙ put-memory (merged rule (rangesIn m) qs) f n e h ∙ ap (λ (x : Answer State). leftBy x m) (done-is h))
+  pub owe-done : (x m′ : List ℕ) → n ≤ most → x ≡ laid false (replicate stateSize 0) 0 (merged rule (rangesIn m) qs) → m′ ≡ headPut x n f
+      → Taken (accepted tt) m′ (owingWith rule f qs m) m
+  owe-done x m′ h l k = (
+    ap judgedOnly (done-is h),
+    k ∙ ap (λ (y : List ℕ). headPut y n f) l ∙ put-memory (merged rule (rangesIn m) qs) f n e h ∙ ap (λ (x : Answer State). leftBy x m) (done-is h),
+  )
 
 -- ---- what is merged is what is owed
 
 merged-heard : (ps qs : List (ℕ × ℕ)) → spans (merged Either ps qs) ≡ rangesOf (λ b. (asks ps b || asks qs b) && not false)
 unfolding merged rangesOf
-merged-heard ps qs = ap spans (runs-like (labelling Either ps qs) (inOrNot (λ b. (asks ps b || asks qs b) && not false)) 0 largest (λ b p q. go (asks ps b) (asks qs b)))
+merged-heard ps qs =
+    ap spans (runs-like (labelling Either ps qs) (inOrNot (λ b. (asks ps b || asks qs b) && not false)) 0 largest (λ b p q. go (asks ps b) (asks qs b)))
   where
     go : (c d : Bool) → labelOf Either c d ≡ (if (c || d) && not false then 1 else 0)
     go true d = refl
@@ -83,7 +92,8 @@ merged-heard ps qs = ap spans (runs-like (labelling Either ps qs) (inOrNot (λ b
 
 merged-resent : (ps qs : List (ℕ × ℕ)) → spans (merged Without ps qs) ≡ rangesOf (λ b. (asks ps b || false) && not (asks qs b))
 unfolding merged rangesOf
-merged-resent ps qs = ap spans (runs-like (labelling Without ps qs) (inOrNot (λ b. (asks ps b || false) && not (asks qs b))) 0 largest (λ b p q. go (asks ps b) (asks qs b)))
+merged-resent ps qs =
+    ap spans (runs-like (labelling Without ps qs) (inOrNot (λ b. (asks ps b || false) && not (asks qs b))) 0 largest (λ b p q. go (asks ps b) (asks qs b)))
   where
     go : (c d : Bool) → labelOf Without c d ≡ (if (c || false) && not d then 1 else 0)
     go true true = refl
@@ -144,7 +154,9 @@ module _ (at : ℕ) (c m : List ℕ) where
 
       pub heard-wrong : (w ≡ 0 → ⊥) → Taken (told (18 ∷ at ∷ [])) m (heardIn at c m) m
       heard-wrong z =
-          refused-entry (18 ∷ at ∷ []) (heardIn at c m) m (refused-told 18 (at ∷ []) (heardIn at c m) refl (out-of-order (stateIn m) at (heardOf n c) (order-is ∙ ne-eqb (disorder pairs) 0 (λ k. z (disorder-is ∙ k))) ∙ as-heard))
+          refused-entry (18 ∷ at ∷ []) (heardIn at c m) m
+          (refused-told 18 (at ∷ []) (heardIn at c m) refl
+          (out-of-order (stateIn m) at (heardOf n c) (order-is ∙ ne-eqb (disorder pairs) 0 (λ k. z (disorder-is ∙ k))) ∙ as-heard))
 
       module _ (z : w ≡ 0) (f : FirstNak) (d : Bool) (ef : f ≡ firstIn m) (ed : d ≡ differs f (n .header .source .0) (n .header .sequence .0 .value)) where
         risen : inOrder (heardOf n c) ≡ true
@@ -155,12 +167,17 @@ module _ (at : ℕ) (c m : List ℕ) where
 
         pub heard-differs : d ≡ true → Taken (told (19 ∷ [])) m (heardIn at c m) m
         heard-differs y =
-            refused-entry (19 ∷ []) (heardIn at c m) m (refused-told 19 [] (heardIn at c m) refl (other-transaction (stateIn m) at (heardOf n c) risen (differs-now ∙ y) ∙ as-heard))
+            refused-entry (19 ∷ []) (heardIn at c m) m
+            (refused-told 19 [] (heardIn at c m) refl (other-transaction (stateIn m) at (heardOf n c) risen (differs-now ∙ y) ∙ as-heard))
 
         module _ (y : d ≡ false) (g : FirstNak) (eg : g ≡ firstAfter f (n .header .source .0) (n .header .sequence .0 .value)) (qs : List (ℕ × ℕ)) (eq : qs ≡ others (pairsOf (n .header .file) a)) where
           after-is : (spans (merged Either (rangesIn m) qs) ≡ after (stateIn m) (heardOf n c) .ranges) × (g ≡ after (stateIn m) (heardOf n c) .first)
           unfolding after heardOf stateIn
-          after-is = (ap (λ (x : List (ℕ × ℕ)). spans (merged Either (rangesIn m) x)) (eq ∙ ap (λ (x : List ℕ). others (pairsOf (n .header .file) x)) ea) ∙ merged-heard (rangesIn m) (others pairs), eg ∙ ap (λ (x : FirstNak). firstAfter x (n .header .source .0) (n .header .sequence .0 .value)) ef)
+          after-is = (
+            ap (λ (x : List (ℕ × ℕ)). spans (merged Either (rangesIn m) x)) (eq ∙ ap (λ (x : List ℕ). others (pairsOf (n .header .file) x)) ea)
+                ∙ merged-heard (rangesIn m) (others pairs),
+            eg ∙ ap (λ (x : FirstNak). firstAfter x (n .header .source .0) (n .header .sequence .0 .value)) ef,
+          )
 
           owing-heard : owingWith Either g qs m ≡ heardIn at c m
           owing-heard =
@@ -184,7 +201,8 @@ module _ (at : ℕ) (c m : List ℕ) (from to : ℕ) (ef : from ≡ numberAt c 0
 
   pub resent-wrong : to ≤ from → Taken (told (18 ∷ at ∷ [])) m (resentIn at c m) m
   resent-wrong h =
-      refused-entry (18 ∷ at ∷ []) (resentIn at c m) m (refused-told 18 (at ∷ []) (resentIn at c m) refl (out-of-order (stateIn m) at (resent (from, to)) (le-ltb from to h) ∙ resent-is))
+      refused-entry (18 ∷ at ∷ []) (resentIn at c m) m
+      (refused-told 18 (at ∷ []) (resentIn at c m) refl (out-of-order (stateIn m) at (resent (from, to)) (le-ltb from to h) ∙ resent-is))
 
   module _ (h : from < to) (f : FirstNak) (e : f ≡ firstIn m) where
     resent-after : (spans (merged Without (rangesIn m) ((from, to) ∷ [])) ≡ after (stateIn m) (resent (from, to)) .ranges) × (f ≡ after (stateIn m) (resent (from, to)) .first)
@@ -247,7 +265,8 @@ Entered a m′ at s m = (a ≡ entryTaken at s m) × (m′ ≡ entryMemory at s 
 module _ (at : ℕ) (s m : List ℕ) where
   refused-here : (n : ℕ) (ms : List ℕ) → eqb n 1 ≡ false → refused (n ∷ ms) ≡ entering at s m → Entered (told (n ∷ ms)) m at s m
   unfolding entryTaken entryMemory
-  refused-here n ms z e = (told-is-refused n ms z ∙ ap (λ (x : Answer State). andThen x (λ _. accepted (entrySize s))) e, ap (λ (x : Answer State). leftBy x m) e)
+  refused-here n ms z e =
+      (told-is-refused n ms z ∙ ap (λ (x : Answer State). andThen x (λ _. accepted (entrySize s))) e, ap (λ (x : Answer State). leftBy x m) e)
 
   not-a-state : isState m ≡ false → refused (23 ∷ []) ≡ entering at s m
   unfolding entering

@@ -44,21 +44,24 @@ not-here : (q : ℕ × ℕ) (qs : List (ℕ × ℕ)) (b : ℕ) → asks (q ∷ q
 not-here q qs b h k l = let e : true ≡ false = sym (asked-here q qs b k l) ∙ h in let z : _≡_ {A = ℕ} 0 1 = cc in omega arith
 
 apart-from : (q : ℕ × ℕ) (b : ℕ) → (q .0 ≤ b → b < q .1 → ⊥) → (leb (q .0) b && ltb b (q .1)) ≡ false
-apart-from q b n = ⊎-elim (λ u. rw (lt-leb (q .0) b u)) (λ u. ⊎-elim (λ v. absurd (n u v)) (λ v. rw (le-ltb b (q .1) v, and-false)) (lt? b (q .1))) (lt? b (q .0))
+apart-from q b n =
+    ⊎-elim (λ u. rw (lt-leb (q .0) b u)) (λ u. ⊎-elim (λ v. absurd (n u v)) (λ v. rw (le-ltb b (q .1) v, and-false)) (lt? b (q .1))) (lt? b (q .0))
 
 -- from e on those ask for the same bytes
 beyond-asks : (e : ℕ) (qs : List (ℕ × ℕ)) (b : ℕ) → e ≤ b → asks (beyond e qs) b ≡ asks qs b
 beyond-asks e [] b h = refl
 beyond-asks e (q ∷ qs) b h =
     let more = beyond-asks e qs b h in
-    ⊎-elim (λ u. rw (lt-ltb e (q .1) u) (ap (λ (x : Bool). leb (q .0) b && ltb b (q .1) || x) more)) (λ u. rw (le-ltb e (q .1) u, le-ltb b (q .1) (let k : q .1 ≤ b = omega arith in k), and-false) more) (lt? e (q .1))
+    ⊎-elim (λ u. rw (lt-ltb e (q .1) u) (ap (λ (x : Bool). leb (q .0) b && ltb b (q .1) || x) more))
+    (λ u. rw (le-ltb e (q .1) u, le-ltb b (q .1) (let k : q .1 ≤ b = omega arith in k), and-false) more) (lt? e (q .1))
 
 -- and for none before, where the byte at e is not asked for
 beyond-none : (e : ℕ) (qs : List (ℕ × ℕ)) (b : ℕ) → asks qs e ≡ false → b < e → asks (beyond e qs) b ≡ false
 beyond-none e [] b n h = refl
 beyond-none e (q ∷ qs) b n h =
     let more = beyond-none e qs b (not-later q qs e n) h in
-    ⊎-elim (λ u. rw (lt-ltb e (q .1) u) (ap₂ (λ (x y : Bool). x || y) (apart-from q b (λ v w. not-here q qs e n (omega arith) u)) more)) (λ u. rw (le-ltb e (q .1) u) more) (lt? e (q .1))
+    ⊎-elim (λ u. rw (lt-ltb e (q .1) u) (ap₂ (λ (x y : Bool). x || y) (apart-from q b (λ v w. not-here q qs e n (omega arith) u)) more))
+    (λ u. rw (le-ltb e (q .1) u) more) (lt? e (q .1))
 
 beyond-most : (e : ℕ) (qs : List (ℕ × ℕ)) → length (beyond e qs) ≤ length qs
 beyond-most e [] = omega arith
@@ -98,7 +101,8 @@ module _ (p : ℕ × ℕ) (ps qs : List (ℕ × ℕ)) (some : p .0 < p .1) (h : 
 
   rest-same : (b : ℕ) → asks (beyond (p .1) qs) b ≡ asks ps b
   rest-same b =
-      ⊎-elim (λ u. beyond-none (p .1) qs b end-free u ∙ sym (behind-below (p .1) b ps h (omega arith))) (λ u. beyond-asks (p .1) qs b u ∙ same b ∙ rw (le-ltb b (p .1) u, and-false)) (lt? b (p .1))
+      ⊎-elim (λ u. beyond-none (p .1) qs b end-free u ∙ sym (behind-below (p .1) b ps h (omega arith)))
+      (λ u. beyond-asks (p .1) qs b u ∙ same b ∙ rw (le-ltb b (p .1) u, and-false)) (lt? b (p .1))
 
 fewest-behind : (e : ℕ) (ps qs : List (ℕ × ℕ)) → ApartBehind e ps → ((b : ℕ) → asks qs b ≡ asks ps b) → length ps ≤ length qs
 fewest-behind e [] qs h same = omega arith

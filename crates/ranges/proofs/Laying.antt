@@ -80,19 +80,24 @@ length-numbers false (range from to l) = refl
 pub length-flat : (labelled : Bool) (rs : List Run) → length (flat labelled rs) ≡ wide labelled * length rs
 length-flat labelled [] = let e : 0 ≡ wide labelled * 0 = omega arith in e
 length-flat labelled (r ∷ rs) =
-    length-append (numbersOf labelled r) (flat labelled rs) ∙ (let e : length (numbersOf labelled r) + length (flat labelled rs) ≡ wide labelled * suc (length rs) = omega (arith, length-numbers labelled r, length-flat labelled rs) in e)
+    length-append (numbersOf labelled r) (flat labelled rs)
+    ∙ (let e : length (numbersOf labelled r) + length (flat labelled rs) ≡ wide labelled * suc (length rs) = omega (arith, length-numbers labelled r, length-flat labelled rs) in e)
 
-laid-sets : (labelled : Bool) (s : List ℕ) (i : ℕ) (rs : List Run) → wide labelled * (i + length rs) ≤ length s → laid labelled s i rs ≡ sets s (wide labelled * i) (flat labelled rs)
+laid-sets : (labelled : Bool) (s : List ℕ) (i : ℕ) (rs : List Run) → wide labelled * (i + length rs) ≤ length s
+    → laid labelled s i rs ≡ sets s (wide labelled * i) (flat labelled rs)
 laid-sets labelled s i [] h = refl
 laid-sets labelled s i (r ∷ rs) h =
     let k : i < length s / wide labelled = le-div-iff-mul-le (wide-positive labelled) .1 (omega arith) in
     let e : wide labelled * i + length (numbersOf labelled r) ≡ wide labelled * (i + 1) = omega (arith, length-numbers labelled r) in
     laid-sets labelled (placed labelled s i r) (i + 1) rs (omega (arith, length-placed labelled s i r))
     ∙ ap (λ (x : List ℕ). sets x (wide labelled * (i + 1)) (flat labelled rs)) (sym (some-place labelled s i r (wide labelled) refl k))
-    ∙ sym (sets-append (numbersOf labelled r) (flat labelled rs) s (wide labelled * i) ∙ ap (λ (j : ℕ). sets (sets s (wide labelled * i) (numbersOf labelled r)) j (flat labelled rs)) e)
+    ∙ sym
+    (sets-append (numbersOf labelled r) (flat labelled rs) s (wide labelled * i)
+    ∙ ap (λ (j : ℕ). sets (sets s (wide labelled * i) (numbersOf labelled r)) j (flat labelled rs)) e)
 
 -- ranges that have room are stored in front, and the rest is as it was
-pub laid-all : (labelled : Bool) (s : List ℕ) (rs : List Run) → wide labelled * length rs ≤ length s → laid labelled s 0 rs ≡ flat labelled rs ++ drop (wide labelled * length rs) s
+pub laid-all : (labelled : Bool) (s : List ℕ) (rs : List Run) → wide labelled * length rs ≤ length s
+    → laid labelled s 0 rs ≡ flat labelled rs ++ drop (wide labelled * length rs) s
 laid-all labelled s rs h =
     let z : wide labelled * 0 ≡ 0 = omega arith in
     let n = length-flat labelled rs in
@@ -116,14 +121,16 @@ closing-most l = ⊎-elim (λ z. omega (arith, closing-none l z)) (λ z. omega (
 
 pub length-closed : (from to l : ℕ) (rs : List Run) → length (closed from to l rs) ≡ closing l + length rs
 length-closed from to l rs =
-    ⊎-elim (λ z. ap length (closed-none from to l rs z) ∙ (let e : length rs ≡ closing l + length rs = omega (arith, closing-none l z) in e)) (λ z. ap length (closed-some from to l rs z) ∙ (let e : suc (length rs) ≡ closing l + length rs = omega (arith, closing-some l z) in e)) (eq? l 0)
+    ⊎-elim (λ z. ap length (closed-none from to l rs z) ∙ (let e : length rs ≡ closing l + length rs = omega (arith, closing-none l z) in e))
+    (λ z. ap length (closed-some from to l rs z) ∙ (let e : suc (length rs) ≡ closing l + length rs = omega (arith, closing-some l z) in e)) (eq? l 0)
 
 module _ (labelled : Bool) (s : List ℕ) (o : Open) (at : ℕ) where
   pub close-none : o .label ≡ 0 → (o .count ≡ o .count + closing (o .label)) × (s ≡ closedInto labelled s o at)
   unfolding closedInto
   close-none z = (omega (arith, closing-none (o .label) z), rw (closed-none (o .from) at (o .label) [] z))
 
-  pub close-some : (o .label ≡ 0 → ⊥) → (s′ : List ℕ) → s′ ≡ placed labelled s (o .count) (range (o .from) at (o .label)) → (o .count + 1 ≡ o .count + closing (o .label)) × (s′ ≡ closedInto labelled s o at)
+  pub close-some : (o .label ≡ 0 → ⊥) → (s′ : List ℕ) → s′ ≡ placed labelled s (o .count) (range (o .from) at (o .label))
+      → (o .count + 1 ≡ o .count + closing (o .label)) × (s′ ≡ closedInto labelled s o at)
   unfolding closedInto
   close-some z s′ e = (omega (arith, closing-some (o .label) z), rw (closed-some (o .from) at (o .label) [] z, e))
 
@@ -132,7 +139,8 @@ module _ (labelled : Bool) (s : List ℕ) (o : Open) (at : ℕ) where
   length-closed-into = length-laid labelled s (o .count) (closed (o .from) at (o .label) [])
 
   -- a range that is closed, and then more
-  laid-closed : (rs : List Run) → laid labelled s (o .count) (closed (o .from) at (o .label) rs) ≡ laid labelled (closedInto labelled s o at) (o .count + closing (o .label)) rs
+  laid-closed : (rs : List Run)
+      → laid labelled s (o .count) (closed (o .from) at (o .label) rs) ≡ laid labelled (closedInto labelled s o at) (o .count + closing (o .label)) rs
   unfolding closedInto
   laid-closed rs =
       ⊎-elim (λ z. rw (closed-none (o .from) at (o .label) rs z, closed-none (o .from) at (o .label) [] z, closing-none (o .label) z, add-zero))
@@ -164,14 +172,17 @@ module _ (labelled : Bool) (s : List ℕ) (o : Open) (at l : ℕ) where
     pub turn-laid : laid labelled s′ (o′ .count) (inFront (o′ .from) to (o′ .label) rs) ≡ laid labelled s (o .count) (inFront (o .from) at (o .label) (inFront at to l rs))
     turn-laid = ⊎-elim goes-on changes (eq? (o .label) l)
       where
-        goes-on : o .label ≡ l → laid labelled s′ (o′ .count) (inFront (o′ .from) to (o′ .label) rs) ≡ laid labelled s (o .count) (inFront (o .from) at (o .label) (inFront at to l rs))
+        goes-on : o .label ≡ l
+            → laid labelled s′ (o′ .count) (inFront (o′ .from) to (o′ .label) rs) ≡ laid labelled s (o .count) (inFront (o .from) at (o .label) (inFront at to l rs))
         goes-on e =
             let p = eo ∙ sym (turned-same e .0) in
             let q = es ∙ sym (turned-same e .1) in
             ap₂ (λ (x : Open) (y : List ℕ). laid labelled y (x .count) (inFront (x .from) to (x .label) rs)) p q
-            ∙ ap (laid labelled s (o .count)) (sym (in-front-twice (o .from) at to (o .label) rs) ∙ ap (λ (k : ℕ). inFront (o .from) at (o .label) (inFront at to k rs)) e)
+            ∙ ap (laid labelled s (o .count))
+            (sym (in-front-twice (o .from) at to (o .label) rs) ∙ ap (λ (k : ℕ). inFront (o .from) at (o .label) (inFront at to k rs)) e)
 
-        changes : (o .label ≡ l → ⊥) → laid labelled s′ (o′ .count) (inFront (o′ .from) to (o′ .label) rs) ≡ laid labelled s (o .count) (inFront (o .from) at (o .label) (inFront at to l rs))
+        changes : (o .label ≡ l → ⊥)
+            → laid labelled s′ (o′ .count) (inFront (o′ .from) to (o′ .label) rs) ≡ laid labelled s (o .count) (inFront (o .from) at (o .label) (inFront at to l rs))
         changes e =
             let w = turned-other e (o .count + closing (o .label)) (closedInto labelled s o at) refl refl in
             ap₂ (λ (x : Open) (y : List ℕ). laid labelled y (x .count) (inFront (x .from) to (x .label) rs)) (eo ∙ sym (w .0)) (es ∙ sym (w .1))
@@ -182,12 +193,15 @@ module _ (labelled : Bool) (s : List ℕ) (o : Open) (at l : ℕ) where
     pub turn-count : o′ .count + length (inFront (o′ .from) to (o′ .label) rs) ≡ o .count + length (inFront (o .from) at (o .label) (inFront at to l rs))
     turn-count = ⊎-elim goes-on changes (eq? (o .label) l)
       where
-        goes-on : o .label ≡ l → o′ .count + length (inFront (o′ .from) to (o′ .label) rs) ≡ o .count + length (inFront (o .from) at (o .label) (inFront at to l rs))
+        goes-on : o .label ≡ l
+            → o′ .count + length (inFront (o′ .from) to (o′ .label) rs) ≡ o .count + length (inFront (o .from) at (o .label) (inFront at to l rs))
         goes-on e =
             ap (λ (x : Open). x .count + length (inFront (x .from) to (x .label) rs)) (eo ∙ sym (turned-same e .0))
-            ∙ ap (λ (x : List Run). o .count + length x) (sym (in-front-twice (o .from) at to (o .label) rs) ∙ ap (λ (k : ℕ). inFront (o .from) at (o .label) (inFront at to k rs)) e)
+            ∙ ap (λ (x : List Run). o .count + length x)
+            (sym (in-front-twice (o .from) at to (o .label) rs) ∙ ap (λ (k : ℕ). inFront (o .from) at (o .label) (inFront at to k rs)) e)
 
-        changes : (o .label ≡ l → ⊥) → o′ .count + length (inFront (o′ .from) to (o′ .label) rs) ≡ o .count + length (inFront (o .from) at (o .label) (inFront at to l rs))
+        changes : (o .label ≡ l → ⊥)
+            → o′ .count + length (inFront (o′ .from) to (o′ .label) rs) ≡ o .count + length (inFront (o .from) at (o .label) (inFront at to l rs))
         changes e =
             let w = turned-other e (o .count + closing (o .label)) (closedInto labelled s o at) refl refl in
             let n = length-closed (o .from) at (o .label) (inFront at to l rs) in

@@ -36,8 +36,14 @@ module _ (m : List ℕ) (count i last : ℕ) (room : 2 * count ≤ length m) (h 
       let n : length (take (2 * count) m) ≡ 2 * count = length-take-le (2 * count) m room in
       let e : 2 * i + 1 ≡ suc (2 * i) = omega arith in
       let e′ : 2 * (i + 1) ≡ suc (suc (2 * i)) = omega arith in
-      rw
-      (drop-cons (take (2 * count) m) (2 * i) 0 (omega arith), drop-cons (take (2 * count) m) (suc (2 * i)) 0 (omega arith), e, e′, getD-take (2 * count) m (2 * i) 0 (omega arith), getD-take (2 * count) m (suc (2 * i)) 0 (omega arith))
+      rw (
+        drop-cons (take (2 * count) m) (2 * i) 0 (omega arith),
+        drop-cons (take (2 * count) m) (suc (2 * i)) 0 (omega arith),
+        e,
+        e′,
+        getD-take (2 * count) m (2 * i) 0 (omega arith),
+        getD-take (2 * count) m (suc (2 * i)) 0 (omega arith),
+      )
 
   pub rise-before : (r : Bool) → getD m (2 * i) 0 < last → rises last (left m count i) ≡ r → false ≡ r
   rise-before r k e = sym (rw (here, lt-leb last (getD m (2 * i) 0) k)) ∙ e
@@ -45,7 +51,8 @@ module _ (m : List ℕ) (count i last : ℕ) (room : 2 * count ≤ length m) (h 
   pub rise-empty : (r : Bool) → getD m (2 * i + 1) 0 ≤ getD m (2 * i) 0 → rises last (left m count i) ≡ r → false ≡ r
   rise-empty r k e = sym (rw (here, le-ltb (getD m (2 * i) 0) (getD m (2 * i + 1) 0) k, and-false)) ∙ e
 
-  pub rise-on : (r : Bool) → last ≤ getD m (2 * i) 0 → getD m (2 * i) 0 < getD m (2 * i + 1) 0 → rises last (left m count i) ≡ r → rises (getD m (2 * i + 1) 0) (left m count (i + 1)) ≡ r
+  pub rise-on : (r : Bool) → last ≤ getD m (2 * i) 0 → getD m (2 * i) 0 < getD m (2 * i + 1) 0 → rises last (left m count i) ≡ r
+      → rises (getD m (2 * i + 1) 0) (left m count (i + 1)) ≡ r
   rise-on r k l e = sym (rw (here, le-leb last (getD m (2 * i) 0) k, lt-ltb (getD m (2 * i) 0) (getD m (2 * i + 1) 0) l)) ∙ e
 
 -- none is left
@@ -58,7 +65,8 @@ pub rises-rising : (e : ℕ) (ps : List (ℕ × ℕ)) → rises e ps ≡ true �
 rises-rising e [] k = tt
 rises-rising e (p ∷ ps) k = go (leb e (p .0)) (ltb (p .0) (p .1)) refl refl k (λ (c : rises (p .1) ps ≡ true). rises-rising (p .1) ps c)
   where
-    go : (c d : Bool) → leb e (p .0) ≡ c → ltb (p .0) (p .1) ≡ d → (c && d && rises (p .1) ps) ≡ true → (rises (p .1) ps ≡ true → Rising (p .1) ps) → (e ≤ p .0) × (p .0 < p .1) × Rising (p .1) ps
+    go : (c d : Bool) → leb e (p .0) ≡ c → ltb (p .0) (p .1) ≡ d → (c && d && rises (p .1) ps) ≡ true → (rises (p .1) ps ≡ true → Rising (p .1) ps)
+        → (e ≤ p .0) × (p .0 < p .1) × Rising (p .1) ps
     go true true l m k more = (leb-true _ _ l, ltb-true _ _ m, more k)
     go true false l m k more = absurd (let z : _≡_ {A = ℕ} 0 1 = cc in let b : ⊥ = omega arith in b)
     go false d l m k more = absurd (let z : _≡_ {A = ℕ} 0 1 = cc in let b : ⊥ = omega arith in b)
@@ -127,7 +135,10 @@ laid-zeros rs h =
     let e : stateSize ≡ 2 * length rs + (countAt - 2 * length rs + 4) = omega arith in
     let room : 2 * length rs ≤ length (zeros stateSize) = omega (arith, length-replicate {A = ℕ} stateSize 0) in
     laid-all false (zeros stateSize) rs room
-    ∙ ap₂ (λ (x y : List ℕ). x ++ y) (flat-numbers rs) (ap (λ (k : ℕ). drop (2 * length rs) (zeros k)) e ∙ drop-zeros (2 * length rs) (countAt - 2 * length rs + 4) ∙ sym (replicate-append-replicate {A = ℕ} (countAt - 2 * length rs) 4 0))
+    ∙ ap₂ (λ (x y : List ℕ). x ++ y) (flat-numbers rs)
+    (ap (λ (k : ℕ). drop (2 * length rs) (zeros k)) e
+    ∙ drop-zeros (2 * length rs) (countAt - 2 * length rs + 4)
+    ∙ sym (replicate-append-replicate {A = ℕ} (countAt - 2 * length rs) 4 0))
     ∙ sym (append-assoc (pairNumbers (spans rs)) (zeros (countAt - 2 * length rs)) (zeros 4))
     ∙ ap (λ (k : ℕ). (pairNumbers (spans rs) ++ zeros (countAt - 2 * k)) ++ zeros 4) (sym n)
 
@@ -142,7 +153,8 @@ head-stored (First source sequence) p j q =
 head-stored Nothing p j q = set-at p 0 (0 ∷ 0 ∷ 0 ∷ []) j countAt q
 
 -- with its head stored, that is the memory of the state
-pub put-memory : (rs : List Run) (f : FirstNak) (n : ℕ) → n ≡ length rs → n ≤ most → headPut (laid false (zeros stateSize) 0 rs) n f ≡ memoryOf (record { ranges = spans rs; first = f })
+pub put-memory : (rs : List Run) (f : FirstNak) (n : ℕ) → n ≡ length rs → n ≤ most
+    → headPut (laid false (zeros stateSize) 0 rs) n f ≡ memoryOf (record { ranges = spans rs; first = f })
 put-memory rs f n e h =
     let k : length rs ≤ most = omega arith in
     let l : length (spans rs) ≤ most = omega (arith, length-spans rs) in
@@ -171,7 +183,9 @@ module _ (s : State) (h : length (s .ranges) ≤ most) where
   unfolding memoryOf
   ranges-back =
       ap (λ (n : ℕ). twos (take (2 * n) (memoryOf s))) count-back
-      ∙ ap twos (take-at (pairNumbers (s .ranges)) (replicate (countAt - 2 * length (s .ranges)) 0 ++ (length (s .ranges) ∷ firstNumbers (s .first))) (2 * length (s .ranges)) (numbers-length (s .ranges)))
+      ∙ ap twos
+      (take-at (pairNumbers (s .ranges)) (replicate (countAt - 2 * length (s .ranges)) 0 ++ (length (s .ranges) ∷ firstNumbers (s .first)))
+      (2 * length (s .ranges)) (numbers-length (s .ranges)))
       ∙ twos-numbers (s .ranges)
 
   pub first-back : firstIn (memoryOf s) ≡ s .first

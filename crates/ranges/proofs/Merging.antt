@@ -32,7 +32,8 @@ pub record Walk (rule : Rule) (labelled : Bool) (ps qs : List (ℕ × ℕ)) (s�
   pub counts : o .count + length (inFront (o .from) at (o .label) (runs (labelling rule ps qs) at (largest - at))) ≡ length (merged rule ps qs)
 
 module _ (rule : Rule) (labelled : Bool) (ps qs : List (ℕ × ℕ)) (s₀ : List ℕ) where
-  pub walk-start : (f₁ e₁ : ℕ) (r₁ : List (ℕ × ℕ)) (f₂ e₂ : ℕ) (r₂ : List (ℕ × ℕ)) → Rising 0 ps → Rising 0 qs → (f₁, e₁) ∷ r₁ ≡ orEnd ps → (f₂, e₂) ∷ r₂ ≡ orEnd qs
+  pub walk-start : (f₁ e₁ : ℕ) (r₁ : List (ℕ × ℕ)) (f₂ e₂ : ℕ) (r₂ : List (ℕ × ℕ)) → Rising 0 ps → Rising 0 qs → (f₁, e₁) ∷ r₁ ≡ orEnd ps
+      → (f₂, e₂) ∷ r₂ ≡ orEnd qs
       → Walk rule labelled ps qs s₀ s₀ f₁ e₁ r₁ f₂ e₂ r₂ (record { from = 0; label = 0; count = 0 }) 0
   unfolding merged
   walk-start f₁ e₁ r₁ f₂ e₂ r₂ h₁ h₂ p q =
@@ -44,7 +45,9 @@ module _ (rule : Rule) (labelled : Bool) (ps qs : List (ℕ × ℕ)) (s₀ : Lis
         first = rw p (ahead-start ps h₁);
         second = rw q (ahead-start qs h₂);
         stores = ap (laid labelled s₀ 0) z;
-        counts = ap (λ (x : List Run). 0 + length x) z ∙ (let e : 0 + length (runs (labelling rule ps qs) 0 largest) ≡ length (runs (labelling rule ps qs) 0 largest) = omega arith in e);
+        counts =
+            ap (λ (x : List Run). 0 + length x) z
+            ∙ (let e : 0 + length (runs (labelling rule ps qs) 0 largest) ≡ length (runs (labelling rule ps qs) 0 largest) = omega arith in e);
       }
 
   module _ (s : List ℕ) (f₁ e₁ : ℕ) (r₁ : List (ℕ × ℕ)) (f₂ e₂ : ℕ) (r₂ : List (ℕ × ℕ)) (o : Open) (at : ℕ) (w : Walk rule labelled ps qs s₀ s f₁ e₁ r₁ f₂ e₂ r₂ o at) where
@@ -74,19 +77,27 @@ module _ (rule : Rule) (labelled : Bool) (ps qs : List (ℕ × ℕ)) (s₀ : Lis
           let k₂ : to ≤ edge at f₂ e₂ = omega (arith, lesser-second) in
           let rest = runs (labelling rule ps qs) to (largest - to) in
           let apart = runs-apart (labelling rule ps qs) to (largest - to) in
-          let stretch = both-stretch rule ps qs at inner f₁ e₁ r₁ f₂ e₂ r₂ to l (w .first) (w .second) k₁ k₂ to-ahead to-inside (el ∙ ap₂ (labelOf rule) g₁ g₂) in
+          let stretch = both-stretch rule ps qs at inner f₁ e₁ r₁ f₂ e₂ r₂ to l (w .first) (w .second) k₁ k₂ to-ahead to-inside
+          (el ∙ ap₂ (labelOf rule) g₁ g₂) in
           record {
             inside = to-inside;
             kept = ap length es ∙ length-turned-into labelled s o at l ∙ w .kept;
             few = turn-most labelled s o at l to rest to-ahead apart o′ s′ eo es (w .few);
             first = rw p (ahead-passed ps at f₁ e₁ r₁ inner to (w .first) to-ahead k₁);
             second = rw q (ahead-passed qs at f₂ e₂ r₂ inner to (w .second) to-ahead k₂);
-            stores = turn-laid labelled s o at l to rest to-ahead apart o′ s′ eo es ∙ ap (λ (x : List Run). laid labelled s (o .count) (inFront (o .from) at (o .label) x)) (sym stretch) ∙ w .stores;
-            counts = turn-count labelled s o at l to rest to-ahead apart o′ s′ eo es ∙ ap (λ (x : List Run). o .count + length (inFront (o .from) at (o .label) x)) (sym stretch) ∙ w .counts;
+            stores =
+                turn-laid labelled s o at l to rest to-ahead apart o′ s′ eo es
+                ∙ ap (λ (x : List Run). laid labelled s (o .count) (inFront (o .from) at (o .label) x)) (sym stretch)
+                ∙ w .stores;
+            counts =
+                turn-count labelled s o at l to rest to-ahead apart o′ s′ eo es
+                ∙ ap (λ (x : List Run). o .count + length (inFront (o .from) at (o .label) x)) (sym stretch)
+                ∙ w .counts;
           }
 
     -- at the end of all offsets nothing is left
-    pub walk-end : largest ≤ at → (n : ℕ) (s′ : List ℕ) → n ≡ o .count + closing (o .label) → s′ ≡ closedInto labelled s o at → (n ≡ length (merged rule ps qs)) × (s′ ≡ laid labelled s₀ 0 (merged rule ps qs))
+    pub walk-end : largest ≤ at → (n : ℕ) (s′ : List ℕ) → n ≡ o .count + closing (o .label) → s′ ≡ closedInto labelled s o at
+        → (n ≡ length (merged rule ps qs)) × (s′ ≡ laid labelled s₀ 0 (merged rule ps qs))
     walk-end h n s′ en es =
         let z : largest - at ≡ 0 = omega arith in
         let none : runs (labelling rule ps qs) at (largest - at) ≡ [] = ap (runs (labelling rule ps qs) at) z ∙ runs-none (labelling rule ps qs) at in (

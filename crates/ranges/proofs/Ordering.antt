@@ -37,14 +37,16 @@ module _ (size : ℕ) (ps : List (ℕ × ℕ)) where
     begin-behind at p q k = (rw (e, eq-eqb x 0 p, eq-eqb y 0 q) (k ∙ zero-add size), rw (e, eq-eqb x 0 p, eq-eqb y 0 q), omega arith)
 
 -- the pairs from there on are the others
-pub others-at : (file : LargeFileFlag) (a : List ℕ) (at : ℕ) → at ≡ beginAt (pairSize file) (areaPairs file a 0) → areaPairs file a at ≡ others (areaPairs file a 0)
+pub others-at : (file : LargeFileFlag) (a : List ℕ) (at : ℕ) → at ≡ beginAt (pairSize file) (areaPairs file a 0)
+    → areaPairs file a at ≡ others (areaPairs file a 0)
 others-at file a at e = go (metadata (areaPairs file a 0)) refl e
   where
     go : (c : Bool) → metadata (areaPairs file a 0) ≡ c → at ≡ (if c then pairSize file else 0) → areaPairs file a at ≡ others (areaPairs file a 0)
     go false m k = rw (k, m)
     go true m k =
         rw (k, m)
-        (⊎-elim (λ u. absurd (let w : false ≡ true = sym (ap metadata (none-left file a 0 u)) ∙ m in let z : _≡_ {A = ℕ} 0 1 = cc in let b : ⊥ = omega arith in b))
+        (⊎-elim
+        (λ u. absurd (let w : false ≡ true = sym (ap metadata (none-left file a 0 u)) ∙ m in let z : _≡_ {A = ℕ} 0 1 = cc in let b : ⊥ = omega arith in b))
         (λ u. ap (areaPairs file a) (sym (zero-add (pairSize file))) ∙ sym (ap behindFirst (whole file a 0 u)))
         (lt? (length a) (0 + pairSize file)))
 
@@ -70,7 +72,8 @@ ordered i e [] h k = tt
 ordered i e (p ∷ ps) h k =
     go (leb e (p .0)) (ltb (p .0) (p .1)) refl refl (λ (c : outOfOrder (i + 1) (p .1) ps ≡ 0). ordered (i + 1) (p .1) ps (omega arith) c)
   where
-    go : (c d : Bool) → leb e (p .0) ≡ c → ltb (p .0) (p .1) ≡ d → (outOfOrder (i + 1) (p .1) ps ≡ 0 → Rising (p .1) ps) → (e ≤ p .0) × (p .0 < p .1) × Rising (p .1) ps
+    go : (c d : Bool) → leb e (p .0) ≡ c → ltb (p .0) (p .1) ≡ d → (outOfOrder (i + 1) (p .1) ps ≡ 0 → Rising (p .1) ps)
+        → (e ≤ p .0) × (p .0 < p .1) × Rising (p .1) ps
     go true true l m more = (leb-true _ _ l, ltb-true _ _ m, more (rw (l, m) at k))
     go true false l m more = absurd (let z : i ≡ 0 = rw (l, m) at k in let b : ⊥ = omega arith in b)
     go false d l m more = absurd (let z : i ≡ 0 = rw l at k in let b : ⊥ = omega arith in b)

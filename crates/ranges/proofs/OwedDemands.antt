@@ -33,7 +33,8 @@ use Rattle.ranges.proofs.Prefixes.{ranges-ask, ranges-rise}
 
 asks-append : (ps qs : List (ℕ × ℕ)) (b : ℕ) → asks (ps ++ qs) b ≡ (asks ps b || asks qs b)
 asks-append [] qs b = refl
-asks-append (p ∷ ps) qs b = ap (λ (x : Bool). leb (p .0) b && ltb b (p .1) || x) (asks-append ps qs b) ∙ go (leb (p .0) b && ltb b (p .1)) (asks ps b) (asks qs b)
+asks-append (p ∷ ps) qs b =
+    ap (λ (x : Bool). leb (p .0) b && ltb b (p .1) || x) (asks-append ps qs b) ∙ go (leb (p .0) b && ltb b (p .1)) (asks ps b) (asks qs b)
   where
     go : (x y z : Bool) → (x || (y || z)) ≡ (x || y || z)
     go true y z = refl
@@ -44,7 +45,8 @@ below e b [] h k = refl
 below e b (p ∷ ps) h k = rw (lt-leb (p .0) b (let m : b < p .0 = omega (arith, h .0) in m)) (below (p .1) b ps (h .2) (omega (arith, h .0, h .1)))
 
 -- what is left asks for the bytes of all but that range
-without : (e b : ℕ) (ps qs : List (ℕ × ℕ)) (p : ℕ × ℕ) → Rising e (ps ++ (p ∷ qs)) → asks (ps ++ qs) b ≡ ((asks (ps ++ (p ∷ qs)) b || false) && not (asks (p ∷ []) b))
+without : (e b : ℕ) (ps qs : List (ℕ × ℕ)) (p : ℕ × ℕ) → Rising e (ps ++ (p ∷ qs))
+    → asks (ps ++ qs) b ≡ ((asks (ps ++ (p ∷ qs)) b || false) && not (asks (p ∷ []) b))
 without e b [] qs p h = go (leb (p .0) b) (ltb b (p .1)) refl
   where
     go : (c d : Bool) → ltb b (p .1) ≡ d → asks qs b ≡ ((c && d || asks qs b || false) && not (c && d || false))
@@ -104,7 +106,8 @@ ranges-apart : (g : ℕ → Bool) → Apart (rangesOf g)
 unfolding rangesOf
 ranges-apart g = in-apart g largest
 
-ranges-exact : (g : ℕ → Bool) (ps : List (ℕ × ℕ)) → Apart ps → ((b : ℕ) → b < largest → asks ps b ≡ g b) → ((b : ℕ) → largest ≤ b → asks ps b ≡ false) → ps ≡ rangesOf g
+ranges-exact : (g : ℕ → Bool) (ps : List (ℕ × ℕ)) → Apart ps → ((b : ℕ) → b < largest → asks ps b ≡ g b) → ((b : ℕ) → largest ≤ b → asks ps b ≡ false)
+    → ps ≡ rangesOf g
 unfolding rangesOf
 ranges-exact g ps h same none = apart-exact g largest ps h same none
 
@@ -115,7 +118,8 @@ unfolding after
 after-is s e = refl
 
 -- an entry in order, of the transaction, after which there are few enough ranges, is taken
-taken : (s : State) (at : ℕ) (e : Entry) → inOrder e ≡ true → differsFrom (s .first) e ≡ false → length (after s e .ranges) ≤ most → judging s at e ≡ accepted (after s e)
+taken : (s : State) (at : ℕ) (e : Entry) → inOrder e ≡ true → differsFrom (s .first) e ≡ false → length (after s e .ranges) ≤ most
+    → judging s at e ≡ accepted (after s e)
 unfolding judging
 taken s at e h k l = rw (h, k, le-ltb most (length (after s e .ranges)) l)
 
@@ -130,7 +134,8 @@ module _ (g : ℕ → Bool) (f : FirstNak) (ps qs : List (ℕ × ℕ)) (p : ℕ 
   rising = rw e at (ranges-rise g)
 
   none-beyond : (b : ℕ) → largest ≤ b → asks (ps ++ qs) b ≡ false
-  none-beyond b h = without 0 b ps qs p rising ∙ ap (λ (x : Bool). (x || false) && not (asks (p ∷ []) b)) (ap (λ (xs : List (ℕ × ℕ)). asks xs b) (sym e) ∙ beyond-all g b h)
+  none-beyond b h =
+      without 0 b ps qs p rising ∙ ap (λ (x : Bool). (x || false) && not (asks (p ∷ []) b)) (ap (λ (xs : List (ℕ × ℕ)). asks xs b) (sym e) ∙ beyond-all g b h)
 
   left-over : ps ++ qs ≡ rangesOf (owedAfter (asks (rangesOf g)) (resent p))
   left-over =
@@ -147,7 +152,8 @@ module _ (g : ℕ → Bool) (f : FirstNak) (ps qs : List (ℕ × ℕ)) (p : ℕ 
 
   given-up : (at : ℕ) → judging (holding (rangesOf g) f) at (resent p) ≡ accepted (holding (ps ++ qs) f)
   given-up at =
-      let is : after (holding (rangesOf g) f) (resent p) ≡ holding (ps ++ qs) f = after-is (holding (rangesOf g) f) (resent p) ∙ ap (λ (x : List (ℕ × ℕ)). holding x f) (sym left-over) in
+      let is : after (holding (rangesOf g) f) (resent p) ≡ holding (ps ++ qs) f = after-is (holding (rangesOf g) f) (resent p)
+      ∙ ap (λ (x : List (ℕ × ℕ)). holding x f) (sym left-over) in
       taken (holding (rangesOf g) f) at (resent p) (lt-ltb (p .0) (p .1) (apart-in ps qs p 0 rising)) refl (rw is (omega (arith, fewer)))
       ∙ ap accepted is
 
@@ -173,7 +179,8 @@ module _ (g : ℕ → Bool) (f : FirstNak) (ps qs : List (ℕ × ℕ)) (p : ℕ 
             ap₂ (λ (x y : Bool). x || y) (none-beyond b u) (rw (le-ltb b (q .1) (let k : q .1 ≤ b = omega arith in k), and-false))
             ∙ sym (beyond-all (owedAfter (asks (ps ++ qs)) (heard source sequence (q ∷ []))) b u)
 
-    used-again : (at : ℕ) → judging (holding (ps ++ qs) f) at (heard source sequence (q ∷ [])) ≡ accepted (after (holding (ps ++ qs) f) (heard source sequence (q ∷ [])))
+    used-again : (at : ℕ)
+        → judging (holding (ps ++ qs) f) at (heard source sequence (q ∷ [])) ≡ accepted (after (holding (ps ++ qs) f) (heard source sequence (q ∷ [])))
     used-again at =
         let s = holding (ps ++ qs) f in
         let h = heard source sequence (q ∷ []) in
@@ -183,7 +190,8 @@ module _ (g : ℕ → Bool) (f : FirstNak) (ps qs : List (ℕ × ℕ)) (p : ℕ 
         taken s at h (one-in-order q some .1) same (rw (after-is s h) k)
 
 pub room-is-used-again : RoomIsUsedAgain
-room-is-used-again g f ps qs p q at next source sequence e full some end same = (given-up g f ps qs p e full at, used-again g f ps qs p e full q source sequence some end same next)
+room-is-used-again g f ps qs p q at next source sequence e full some end same =
+    (given-up g f ps qs p e full at, used-again g f ps qs p e full q source sequence some end same next)
 
 -- ---- one answer
 

@@ -73,7 +73,8 @@ ranges-rise g = in-rise g largest
 
 ranges-later : (es : List Entry) (e : Entry) → rangesOf (owedAfter (asks (rangesOf (owes es))) e) ≡ rangesOf (owes (es ++ (e ∷ [])))
 ranges-later es e =
-    ranges-like (owedAfter (asks (rangesOf (owes es))) e) (owes (es ++ (e ∷ []))) (λ b h. ap (λ (c : Bool). (c || asksFor e b) && not (resends e b)) (ranges-ask (owes es) b h) ∙ sym (owes-later es e b))
+    ranges-like (owedAfter (asks (rangesOf (owes es))) e) (owes (es ++ (e ∷ [])))
+    (λ b h. ap (λ (c : Bool). (c || asksFor e b) && not (resends e b)) (ranges-ask (owes es) b h) ∙ sym (owes-later es e b))
 
 -- ---- an entry that was taken
 
@@ -97,13 +98,17 @@ ranges-in m = refl
 
 pub taken-ranges : (m : List ℕ) (e : Entry) (t : State) → Judged (stateIn m) e t → rangesIn (memoryOf t) ≡ rangesOf (owedAfter (asks (rangesIn m)) e)
 taken-ranges m e t j =
-    ranges-back t (j .few) ∙ ap (λ (x : State). x .ranges) (j .is) ∙ after-ranges (stateIn m) e ∙ ap (λ (ps : List (ℕ × ℕ)). rangesOf (owedAfter (asks ps) e)) (ranges-in m)
+    ranges-back t (j .few)
+    ∙ ap (λ (x : State). x .ranges) (j .is)
+    ∙ after-ranges (stateIn m) e
+    ∙ ap (λ (ps : List (ℕ × ℕ)). rangesOf (owedAfter (asks ps) e)) (ranges-in m)
 
 pub state-again : StateAgain
 state-again at s m t k =
     let w = took at s m t k in
     let j = judged (stateIn m) at (w .entry) t (w .judged) in
-    back-is-state t (j .few) (rw (ap (λ (x : State). x .ranges) (j .is) ∙ after-ranges (stateIn m) (w .entry)) (ranges-rise (owedAfter (asks (stateIn m .ranges)) (w .entry))))
+    back-is-state t (j .few)
+    (rw (ap (λ (x : State). x .ranges) (j .is) ∙ after-ranges (stateIn m) (w .entry)) (ranges-rise (owedAfter (asks (stateIn m .ranges)) (w .entry))))
 
 -- ---- a run
 
@@ -118,7 +123,9 @@ stands-ahead (suc n) at s m = go (eq? (length s) 0) (λ (t : State). stands-ahea
     on (short l k) more = omega arith
     on (refused ns) more = omega arith
 
-    go : (length s ≡ 0) ⊎ (length s ≡ 0 → ⊥) → ((t : State) → at + entrySize s ≤ runFor n (at + entrySize s) (drop (entrySize s) s) (memoryOf t) .stop .1) → at ≤ runFor (suc n) at s m .stop .1
+    go : (length s ≡ 0) ⊎ (length s ≡ 0 → ⊥)
+        → ((t : State) → at + entrySize s ≤ runFor n (at + entrySize s) (drop (entrySize s) s) (memoryOf t) .stop .1)
+        → at ≤ runFor (suc n) at s m .stop .1
     go (inl e) more = rw (for-none (suc n) at s m e) (omega arith)
     go (inr e) more = rw (for-some n at s m e) (on (entering at s m) more)
 
@@ -128,7 +135,8 @@ unfolding entriesFor
 no-entries zero at s = refl
 no-entries (suc n) at s = rw (le-ltb at at (let k : at ≤ at = omega arith in k))
 
-an-entry : (n stop at : ℕ) (s : List ℕ) (e : Entry) → at < stop → accepted e ≡ readingEntry at s → entriesFor (suc n) stop at s ≡ e ∷ entriesFor n stop (at + entrySize s) (drop (entrySize s) s)
+an-entry : (n stop at : ℕ) (s : List ℕ) (e : Entry) → at < stop → accepted e ≡ readingEntry at s
+    → entriesFor (suc n) stop at s ≡ e ∷ entriesFor n stop (at + entrySize s) (drop (entrySize s) s)
 unfolding entriesFor
 an-entry n stop at s e h k = rw (lt-ltb at stop h) (ap (λ (x : Answer Entry). andMore x (entriesFor n stop (at + entrySize s) (drop (entrySize s) s))) (sym k))
 
@@ -136,7 +144,8 @@ an-entry n stop at s e h k = rw (lt-ltb at stop h) (ap (λ (x : Answer Entry). a
 abbrev Owes : ℕ → ℕ → List ℕ → List Entry → Ran → Type 0
 Owes n at s es r = rangesIn (r .memory) ≡ rangesOf (owes (es ++ entriesFor n (r .stop .1) at s))
 
-stays : (n at : ℕ) (s m : List ℕ) (es : List Entry) (a : Answer (Unit {0})) → rangesIn m ≡ rangesOf (owes es) → Owes n at s es (record { stop = (a, at); memory = m })
+stays : (n at : ℕ) (s m : List ℕ) (es : List Entry) (a : Answer (Unit {0})) → rangesIn m ≡ rangesOf (owes es)
+    → Owes n at s es (record { stop = (a, at); memory = m })
 stays n at s m es a h = h ∙ ap (λ (x : List Entry). rangesOf (owes x)) (sym (ap (λ (x : List Entry). es ++ x) (no-entries n at s) ∙ append-nil es))
 
 -- and from the next entry on, whatever is taken
@@ -149,16 +158,21 @@ prefix : (n at : ℕ) (s m : List ℕ) (es : List Entry) → rangesIn m ≡ rang
 prefix zero at s m es h = rw (for-no-entry at s m) (stays zero at s m es (accepted tt) h)
 prefix (suc n) at s m es h = go (eq? (length s) 0) (λ (ds : List Entry) (t : State). prefix n (at + entrySize s) (drop (entrySize s) s) (memoryOf t) ds)
   where
-    on : (o : Answer State) → entering at s m ≡ o → More n at s → Owes (suc n) at s es (goOn o at m (λ t. runFor n (at + entrySize s) (drop (entrySize s) s) (memoryOf t)))
+    on : (o : Answer State) → entering at s m ≡ o → More n at s
+        → Owes (suc n) at s es (goOn o at m (λ t. runFor n (at + entrySize s) (drop (entrySize s) s) (memoryOf t)))
     on (accepted t) k more =
         let w = took at s m t k in
         let j = judged (stateIn m) at (w .entry) t (w .judged) in
         let r = runFor n (at + entrySize s) (drop (entrySize s) s) (memoryOf t) in
         let ahead = stands-ahead n (at + entrySize s) (drop (entrySize s) s) (memoryOf t) in
         let size = taken-whole at s m t k in
-        let one : rangesIn (memoryOf t) ≡ rangesOf (owes (es ++ (w .entry ∷ []))) = taken-ranges m (w .entry) t j ∙ ap (λ (ps : List (ℕ × ℕ)). rangesOf (owedAfter (asks ps) (w .entry))) h ∙ ranges-later es (w .entry) in
+        let one : rangesIn (memoryOf t) ≡ rangesOf (owes (es ++ (w .entry ∷ []))) = taken-ranges m (w .entry) t j
+        ∙ ap (λ (ps : List (ℕ × ℕ)). rangesOf (owedAfter (asks ps) (w .entry))) h
+        ∙ ranges-later es (w .entry) in
         more (es ++ (w .entry ∷ [])) t one
-        ∙ ap (λ (x : List Entry). rangesOf (owes x)) (append-assoc es (w .entry ∷ []) (entriesFor n (r .stop .1) (at + entrySize s) (drop (entrySize s) s)) ∙ ap (λ (x : List Entry). es ++ x) (sym (an-entry n (r .stop .1) at s (w .entry) (omega (arith, size .1)) (w .read))))
+        ∙ ap (λ (x : List Entry). rangesOf (owes x))
+        (append-assoc es (w .entry ∷ []) (entriesFor n (r .stop .1) (at + entrySize s) (drop (entrySize s) s))
+        ∙ ap (λ (x : List Entry). es ++ x) (sym (an-entry n (r .stop .1) at s (w .entry) (omega (arith, size .1)) (w .read))))
     on (short l k) e more = stays (suc n) at s m es (short l k) h
     on (refused ns) e more = stays (suc n) at s m es (refused ns) h
 

@@ -88,7 +88,8 @@ module _ (all : List (ℕ × ℕ)) (at from end : ℕ) (rest : List (ℕ × ℕ)
   side-pays to h k m l = ⊎-elim (λ u. outside u (edge-out at from end u)) (λ u. inner u (edge-in at from end u)) (lt? at from)
     where
       -- not yet in the pair
-      outside : at < from → edge at from end ≡ from → changesLeft (leb from at) to (passed to ((from, end) ∷ rest)) ≤ 2 * weight ((from, end) ∷ rest) - bit (leb from at)
+      outside : at < from → edge at from end ≡ from
+          → changesLeft (leb from at) to (passed to ((from, end) ∷ rest)) ≤ 2 * weight ((from, end) ∷ rest) - bit (leb from at)
       outside u e =
           rw (lt-leb from at u)
           (⊎-elim
@@ -100,7 +101,8 @@ module _ (all : List (ℕ × ℕ)) (at from end : ℕ) (rest : List (ℕ × ℕ)
           (eq? end to))
 
       -- in the pair
-      inner : from ≤ at → edge at from end ≡ end → changesLeft (leb from at) to (passed to ((from, end) ∷ rest)) ≤ 2 * weight ((from, end) ∷ rest) - bit (leb from at)
+      inner : from ≤ at → edge at from end ≡ end
+          → changesLeft (leb from at) to (passed to ((from, end) ∷ rest)) ≤ 2 * weight ((from, end) ∷ rest) - bit (leb from at)
       inner u e =
           rw (le-leb from at u, lt-ltb from end (let b : from < end = omega (arith, h .2 inside) in b))
           (⊎-elim
@@ -111,7 +113,8 @@ module _ (all : List (ℕ × ℕ)) (at from end : ℕ) (rest : List (ℕ × ℕ)
 -- ---- both sides
 
 -- a change of label is paid by the sides' changes: two ranges that touch want both
-changes-pay : (rule : Rule) (c₁ c₂ d₁ d₂ : Bool) → (labelOf rule c₁ c₂ ≡ labelOf rule d₁ d₂ → ⊥) → closing (labelOf rule c₁ c₂) + closing (labelOf rule d₁ d₂) ≤ differs c₁ d₁ + differs c₂ d₂
+changes-pay : (rule : Rule) (c₁ c₂ d₁ d₂ : Bool) → (labelOf rule c₁ c₂ ≡ labelOf rule d₁ d₂ → ⊥)
+    → closing (labelOf rule c₁ c₂) + closing (labelOf rule d₁ d₂) ≤ differs c₁ d₁ + differs c₂ d₂
 unfolding closing
 changes-pay Differ true true true true h = absurd (h refl)
 changes-pay Differ true true true false h = lit≤ tt
@@ -178,13 +181,15 @@ module _ (rule : Rule) (ps qs : List (ℕ × ℕ)) where
   stretch-pays at to s k l x₁ x₂ y₁ y₂ c₁ c₂ d₁ d₂ a e ek el p q h =
       ⊎-elim
       (λ u.
-      let same : inFront s at k (inFront at to l rest) ≡ inFront s to l rest = ap (λ (x : ℕ). inFront s at x (inFront at to l rest)) u ∙ in-front-twice s at to l rest in
+      let same : inFront s at k (inFront at to l rest) ≡ inFront s to l rest = ap (λ (x : ℕ). inFront s at x (inFront at to l rest)) u
+      ∙ in-front-twice s at to l rest in
       let n = ap length (ap (inFront s at k) e ∙ same) in
       let c = ap closing u in
       let b = h s in
       omega arith)
       (λ u.
-      let n = ap length (ap (inFront s at k) e ∙ in-front-unlike s at to k l rest u a (runs-apart (labelling rule ps qs) to (largest - to))) ∙ length-closed s at k (inFront at to l rest) in
+      let n = ap length (ap (inFront s at k) e ∙ in-front-unlike s at to k l rest u a (runs-apart (labelling rule ps qs) to (largest - to)))
+      ∙ length-closed s at k (inFront at to l rest) in
       let b = h at in
       let c : closing k + closing l ≤ differs c₁ d₁ + differs c₂ d₂ = rw (ek, el) (changes-pay rule c₁ c₂ d₁ d₂ (λ z. u (ek ∙ z ∙ sym el))) in
       omega arith)
@@ -206,13 +211,15 @@ module _ (rule : Rule) (ps qs : List (ℕ × ℕ)) where
       stretch-to inside to k₁ k₂ a =
           ⊎-elim
           (λ u.
-          stretch-pays at to s k l (changesLeft d₁ to (passed to (p ∷ r₁))) (changesLeft d₂ to (passed to (q ∷ r₂))) (2 * weight (p ∷ r₁) - bit d₁) (2 * weight (q ∷ r₂) - bit d₂) c₁ c₂ d₁ d₂ a
+          stretch-pays at to s k l (changesLeft d₁ to (passed to (p ∷ r₁))) (changesLeft d₂ to (passed to (q ∷ r₂))) (2 * weight (p ∷ r₁) - bit d₁)
+          (2 * weight (q ∷ r₂) - bit d₂) c₁ c₂ d₁ d₂ a
           (both-stretch rule ps qs at inside (p .0) (p .1) r₁ (q .0) (q .1) r₂ to l h₁ h₂ k₁ k₂ a (omega arith) refl) ek refl
           (side-pays ps at (p .0) (p .1) r₁ inside to h₁ a u k₁) (side-pays qs at (q .0) (q .1) r₂ inside to h₂ a u k₂)
           (λ s′. more to s′ l d₁ d₂ (omega arith) (ahead-passed ps at (p .0) (p .1) r₁ inside to h₁ a k₁) (ahead-passed qs at (q .0) (q .1) r₂ inside to h₂ a k₂) refl))
           (λ u.
           stretch-pays at largest s k l 0 0 (2 * weight (p ∷ r₁) - bit d₁) (2 * weight (q ∷ r₂) - bit d₂) c₁ c₂ d₁ d₂ inside
-          (both-stretch rule ps qs at inside (p .0) (p .1) r₁ (q .0) (q .1) r₂ largest l h₁ h₂ (omega arith) (omega arith) inside (omega arith) refl) ek refl (omega arith) (omega arith)
+          (both-stretch rule ps qs at inside (p .0) (p .1) r₁ (q .0) (q .1) r₂ largest l h₁ h₂ (omega arith) (omega arith) inside (omega arith) refl) ek refl
+          (omega arith) (omega arith)
           (λ s′. let b = ends-pay largest s′ l (0 + 0) (omega arith) in omega arith))
           (lt? to largest)
         where
@@ -231,7 +238,8 @@ module _ (rule : Rule) (ps qs : List (ℕ × ℕ)) where
           (λ inside.
           let a₁ = edge-ahead ps at (p .0) (p .1) r₁ inside h₁ in
           let a₂ = edge-ahead qs at (q .0) (q .1) r₂ inside h₂ in
-          ⊎-elim (λ u. stretch-to inside (edge at (q .0) (q .1)) (omega arith) (omega arith) a₂) (λ u. stretch-to inside (edge at (p .0) (p .1)) (omega arith) u a₁) (lt? (edge at (q .0) (q .1)) (edge at (p .0) (p .1))))
+          ⊎-elim (λ u. stretch-to inside (edge at (q .0) (q .1)) (omega arith) (omega arith) a₂)
+          (λ u. stretch-to inside (edge at (p .0) (p .1)) (omega arith) u a₁) (lt? (edge at (q .0) (q .1)) (edge at (p .0) (p .1))))
           (λ u. let b = ends-pay at s k (changesLeft c₁ at (p ∷ r₁) + changesLeft c₂ at (q ∷ r₂)) u in omega arith)
           (lt? at largest)
 
@@ -242,14 +250,16 @@ module _ (rule : Rule) (ps qs : List (ℕ × ℕ)) where
   unfolding Ahead
   by-lists [] l₂ at s k c₁ c₂ fuel f h₁ h₂ ek more = absurd h₁
   by-lists (p ∷ r₁) [] at s k c₁ c₂ fuel f h₁ h₂ ek more = absurd h₂
-  by-lists (p ∷ r₁) (q ∷ r₂) at s k c₁ c₂ fuel f h₁ h₂ ek more = one-step p r₁ q r₂ at s k c₁ c₂ fuel f h₁ h₂ ek (λ to. more (passed to (p ∷ r₁)) (passed to (q ∷ r₂)) to)
+  by-lists (p ∷ r₁) (q ∷ r₂) at s k c₁ c₂ fuel f h₁ h₂ ek more =
+      one-step p r₁ q r₂ at s k c₁ c₂ fuel f h₁ h₂ ek (λ to. more (passed to (p ∷ r₁)) (passed to (q ∷ r₂)) to)
 
   ranges-pay : (fuel : ℕ) (l₁ l₂ : List (ℕ × ℕ)) (at s k : ℕ) (c₁ c₂ : Bool) → largest - at ≤ fuel → Ahead ps at l₁ → Ahead qs at l₂ → k ≡ labelOf rule c₁ c₂
       → 2 * length (inFront s at k (runs (labelling rule ps qs) at (largest - at))) ≤ closing k + changesLeft c₁ at l₁ + changesLeft c₂ at l₂ + 1
   ranges-pay zero l₁ l₂ at s k c₁ c₂ f h₁ h₂ ek =
       let b = ends-pay at s k (changesLeft c₁ at l₁ + changesLeft c₂ at l₂) (omega arith) in
       omega arith
-  ranges-pay (suc fuel) l₁ l₂ at s k c₁ c₂ f h₁ h₂ ek = by-lists l₁ l₂ at s k c₁ c₂ fuel f h₁ h₂ ek (λ m₁ m₂ to s′ l d₁ d₂ g a₁ a₂ e. ranges-pay fuel m₁ m₂ to s′ l d₁ d₂ g a₁ a₂ e)
+  ranges-pay (suc fuel) l₁ l₂ at s k c₁ c₂ f h₁ h₂ ek =
+      by-lists l₁ l₂ at s k c₁ c₂ fuel f h₁ h₂ ek (λ m₁ m₂ to s′ l d₁ d₂ g a₁ a₂ e. ranges-pay fuel m₁ m₂ to s′ l d₁ d₂ g a₁ a₂ e)
 
 -- ---- the promise
 
@@ -278,13 +288,15 @@ unfolding differences
 differences-most ps qs h k = merged-most Differ (others ps) (others qs) (disorder-none ps h) (disorder-none qs k)
 
 -- with so many threes lent the test for room does not hold
-room-passes : (ps qs : List (ℕ × ℕ)) (room : ℕ) → disorder ps ≡ 0 → disorder qs ≡ 0 → 3 * (length (others ps) + length (others qs)) ≤ room → ltb (room / 3) (length (differences ps qs)) ≡ false
+room-passes : (ps qs : List (ℕ × ℕ)) (room : ℕ) → disorder ps ≡ 0 → disorder qs ≡ 0 → 3 * (length (others ps) + length (others qs)) ≤ room
+    → ltb (room / 3) (length (differences ps qs)) ≡ false
 room-passes ps qs room h k r =
     let m = differences-most ps qs h k in
     le-ltb _ _ (le-div-iff-mul-le (lit< tt) .1 (let n : length (differences ps qs) * 3 ≤ room = omega arith in n))
 
 -- and so the pairs are not refused with 20
-pairs-have-room : (same : Bool) (ps qs : List (ℕ × ℕ)) (room : ℕ) → 3 * (length (others ps) + length (others qs)) ≤ room → comparingPairs same ps qs room ≡ refused (20 ∷ []) → ⊥
+pairs-have-room : (same : Bool) (ps qs : List (ℕ × ℕ)) (room : ℕ) → 3 * (length (others ps) + length (others qs)) ≤ room
+    → comparingPairs same ps qs room ≡ refused (20 ∷ []) → ⊥
 unfolding comparingPairs
 pairs-have-room same ps qs room r e =
     go (not (eqb (disorder ps) 0)) (not (eqb (disorder qs) 0)) (not same) (ltb (room / 3) (length (differences ps qs))) refl refl refl e
@@ -294,7 +306,8 @@ pairs-have-room same ps qs room r e =
 
     go : (a b c d : Bool) → not (eqb (disorder ps) 0) ≡ a → not (eqb (disorder qs) 0) ≡ b → ltb (room / 3) (length (differences ps qs)) ≡ d
         → _≡_ {A = Answer Compared}
-        (if a then refused (18 ∷ 1 ∷ disorder ps ∷ []) else if b then refused (18 ∷ 2 ∷ disorder qs ∷ []) else if c then refused (19 ∷ []) else if d then refused (20 ∷ []) else accepted (compared ps qs))
+        (if a then refused (18 ∷ 1 ∷ disorder ps ∷ []) else if b then refused (18 ∷ 2 ∷ disorder qs ∷ []) else if c then refused (19 ∷ []) else if d then refused
+        (20 ∷ []) else accepted (compared ps qs))
         (refused (20 ∷ []))
         → ⊥
     go true b c d p q s k = let z : _≡_ {A = List ℕ} (18 ∷ 1 ∷ disorder ps ∷ []) (20 ∷ []) = cc in let n = ap number z in omega arith
@@ -328,8 +341,12 @@ never-outnumber s t lent m n d p q e =
 -- a refusal with 20 is one of the pairs
 twenty : (o : Answer Compared) → told (20 ∷ []) ≡ andThen o (λ c. accepted (counted c)) → o ≡ refused (20 ∷ [])
 twenty (accepted c) e = absurd (told-no (20 ∷ []) (counted c) e)
-twenty (short l n) e = absurd (let k : _≡_ {A = Answer Differences} (refused (20 ∷ [])) (short l n) = sym (told-is-refused 20 [] refl) ∙ e in let z : _≡_ {A = ℕ} 0 1 = cc in let b : ⊥ = omega arith in b)
-twenty (refused ns) e = let k : _≡_ {A = Answer Differences} (refused (20 ∷ [])) (refused ns) = sym (told-is-refused 20 [] refl) ∙ e in let z : _≡_ {A = List ℕ} (20 ∷ []) ns = cc in ap refused (sym z)
+twenty (short l n) e =
+    absurd
+    (let k : _≡_ {A = Answer Differences} (refused (20 ∷ [])) (short l n) = sym (told-is-refused 20 [] refl) ∙ e in let z : _≡_ {A = ℕ} 0 1 = cc in let b : ⊥ = omega arith in b)
+twenty (refused ns) e =
+    let k : _≡_ {A = Answer Differences} (refused (20 ∷ [])) (refused ns) = sym (told-is-refused 20 [] refl) ∙ e in
+    let z : _≡_ {A = List ℕ} (20 ∷ []) ns = cc in ap refused (sym z)
 
 pub never-no-room : NeverNoRoom
 unfolding differing

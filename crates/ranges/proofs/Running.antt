@@ -37,7 +37,8 @@ unfolding entering
 took at s m t e = go (isState m) refl e
   where
     go : (c : Bool) → isState m ≡ c → (if c then andThen (readingEntry at s) (judging (stateIn m) at) else refused (23 ∷ [])) ≡ accepted t → Took at s m t
-    go true k q = let w = went (readingEntry at s) (judging (stateIn m) at) t (sym q) in record { state = k; entry = w .mid; read = w .first; judged = w .second }
+    go true k q =
+        let w = went (readingEntry at s) (judging (stateIn m) at) t (sym q) in record { state = k; entry = w .mid; read = w .first; judged = w .second }
     go false k q = absurd (let z : _≡_ {A = ℕ} 0 1 = cc in let b : ⊥ = omega arith in b)
 
 -- and one that was read is whole
@@ -75,7 +76,8 @@ unfolding runFor
 for-none zero at s m e = refl
 for-none (suc n) at s m e = rw (eq-eqb (length s) 0 e)
 
-pub for-some : (n at : ℕ) (s m : List ℕ) → (length s ≡ 0 → ⊥) → runFor (suc n) at s m ≡ goOn (entering at s m) at m (λ t. runFor n (at + entrySize s) (drop (entrySize s) s) (memoryOf t))
+pub for-some : (n at : ℕ) (s m : List ℕ) → (length s ≡ 0 → ⊥)
+    → runFor (suc n) at s m ≡ goOn (entering at s m) at m (λ t. runFor n (at + entrySize s) (drop (entrySize s) s) (memoryOf t))
 unfolding runFor
 for-some n at s m e = rw (ne-eqb (length s) 0 e)
 
@@ -92,27 +94,34 @@ for-enough (suc j) (suc k) at s m h l = go (eq? (length s) 0) (λ (t : State). f
     go (inl e) more = for-none (suc j) at s m e ∙ sym (for-none (suc k) at s m e)
     go (inr e) more =
         for-some j at s m e
-        ∙ go-on-like (entering at s m) at m (λ t. runFor j (at + entrySize s) (drop (entrySize s) s) (memoryOf t)) (λ t. runFor k (at + entrySize s) (drop (entrySize s) s) (memoryOf t)) (λ t q. let w = taken-whole at s m t q in more t (omega (arith, w .0, w .1, length-drop (entrySize s) s)) (omega (arith, w .0, w .1, length-drop (entrySize s) s)))
+        ∙ go-on-like (entering at s m) at m (λ t. runFor j (at + entrySize s) (drop (entrySize s) s) (memoryOf t))
+        (λ t. runFor k (at + entrySize s) (drop (entrySize s) s) (memoryOf t))
+        (λ t q. let w = taken-whole at s m t q in more t (omega (arith, w .0, w .1, length-drop (entrySize s) s)) (omega (arith, w .0, w .1, length-drop (entrySize s) s)))
         ∙ sym (for-some k at s m e)
 
 pub running-none : (at : ℕ) (s m : List ℕ) → length s ≡ 0 → running at s m ≡ ended at m
 unfolding running
 running-none at s m e = for-none (length s) at s m e
 
-pub running-some : (at : ℕ) (s m : List ℕ) → (length s ≡ 0 → ⊥) → running at s m ≡ goOn (entering at s m) at m (λ t. running (at + entrySize s) (drop (entrySize s) s) (memoryOf t))
+pub running-some : (at : ℕ) (s m : List ℕ) → (length s ≡ 0 → ⊥)
+    → running at s m ≡ goOn (entering at s m) at m (λ t. running (at + entrySize s) (drop (entrySize s) s) (memoryOf t))
 unfolding running
 running-some at s m e =
     for-enough (length s) (suc (length s)) at s m (omega arith) (omega arith)
     ∙ for-some (length s) at s m e
-    ∙ go-on-like (entering at s m) at m (λ t. runFor (length s) (at + entrySize s) (drop (entrySize s) s) (memoryOf t)) (λ t. runFor (length (drop (entrySize s) s)) (at + entrySize s) (drop (entrySize s) s) (memoryOf t)) (λ t q. for-enough (length s) (length (drop (entrySize s) s)) (at + entrySize s) (drop (entrySize s) s) (memoryOf t) (omega (arith, length-drop (entrySize s) s)) (omega arith))
+    ∙ go-on-like (entering at s m) at m (λ t. runFor (length s) (at + entrySize s) (drop (entrySize s) s) (memoryOf t))
+    (λ t. runFor (length (drop (entrySize s) s)) (at + entrySize s) (drop (entrySize s) s) (memoryOf t))
+    (λ t q. for-enough (length s) (length (drop (entrySize s) s)) (at + entrySize s) (drop (entrySize s) s) (memoryOf t) (omega (arith, length-drop (entrySize s) s)) (omega arith))
 
 -- ---- the loop
 
 module _ (log : List ℕ) (from at : ℕ) (m m₀ : List ℕ) (inv : running at (drop at log) m ≡ running from (drop from log) m₀) where
-  stands : (r : Ran) → running at (drop at log) m ≡ r → (r .stop ≡ running from (drop from log) m₀ .stop) × (r .memory ≡ running from (drop from log) m₀ .memory)
+  stands : (r : Ran) → running at (drop at log) m ≡ r
+      → (r .stop ≡ running from (drop from log) m₀ .stop) × (r .memory ≡ running from (drop from log) m₀ .memory)
   stands r e = (ap (λ (x : Ran). x .stop) (sym e ∙ inv), ap (λ (x : Ran). x .memory) (sym e ∙ inv))
 
-  pub run-end : length log ≤ at → (_≡_ {A = Answer (Unit {0}) × ℕ} (accepted tt, at) (running from (drop from log) m₀ .stop)) × (m ≡ running from (drop from log) m₀ .memory)
+  pub run-end : length log ≤ at
+      → (_≡_ {A = Answer (Unit {0}) × ℕ} (accepted tt, at) (running from (drop from log) m₀ .stop)) × (m ≡ running from (drop from log) m₀ .memory)
   run-end h = stands (ended at m) (running-none at (drop at log) m (omega (arith, length-drop at log)))
 
   module _ (h : at < length log) (s : List ℕ) (es : s ≡ drop at log) where
@@ -120,10 +129,13 @@ module _ (log : List ℕ) (from at : ℕ) (m m₀ : List ℕ) (inv : running at 
     some-left e = omega (arith, length-drop at log)
 
     step : running at (drop at log) m ≡ goOn (entering at s m) at m (λ t. running (at + entrySize s) (drop (entrySize s) s) (memoryOf t))
-    step = running-some at (drop at log) m some-left ∙ ap (λ (x : List ℕ). goOn (entering at x m) at m (λ t. running (at + entrySize x) (drop (entrySize x) x) (memoryOf t))) (sym es)
+    step =
+        running-some at (drop at log) m some-left
+        ∙ ap (λ (x : List ℕ). goOn (entering at x m) at m (λ t. running (at + entrySize x) (drop (entrySize x) x) (memoryOf t))) (sym es)
 
     module _ (m′ : List ℕ) (em : m′ ≡ entryMemory at s m) where
-      pub run-refused : (ns : List ℕ) → told ns ≡ entryTaken at s m → (_≡_ {A = Answer (Unit {0}) × ℕ} (told ns, at) (running from (drop from log) m₀ .stop)) × (m′ ≡ running from (drop from log) m₀ .memory)
+      pub run-refused : (ns : List ℕ) → told ns ≡ entryTaken at s m
+          → (_≡_ {A = Answer (Unit {0}) × ℕ} (told ns, at) (running from (drop from log) m₀ .stop)) × (m′ ≡ running from (drop from log) m₀ .memory)
       unfolding entryTaken entryMemory
       run-refused ns k = go (entering at s m) refl k em
         where
@@ -131,10 +143,12 @@ module _ (log : List ℕ) (from at : ℕ) (m m₀ : List ℕ) (inv : running at 
               → (_≡_ {A = Answer (Unit {0}) × ℕ} (told ns, at) (running from (drop from log) m₀ .stop)) × (m′ ≡ running from (drop from log) m₀ .memory)
           go (accepted t) p q l = absurd (told-no ns (entrySize s) q)
           go (short a n) p q l =
-              let r = stands (record { stop = (short a n, at); memory = m }) (step ∙ ap (λ (x : Answer State). goOn x at m (λ t. running (at + entrySize s) (drop (entrySize s) s) (memoryOf t))) p) in
+              let r = stands (record { stop = (short a n, at); memory = m })
+              (step ∙ ap (λ (x : Answer State). goOn x at m (λ t. running (at + entrySize s) (drop (entrySize s) s) (memoryOf t))) p) in
               (ap (λ (x : Answer (Unit {0})). (x, at)) (told-short ns a n q) ∙ r .0, l ∙ r .1)
           go (refused ms) p q l =
-              let r = stands (record { stop = (refused ms, at); memory = m }) (step ∙ ap (λ (x : Answer State). goOn x at m (λ t. running (at + entrySize s) (drop (entrySize s) s) (memoryOf t))) p) in
+              let r = stands (record { stop = (refused ms, at); memory = m })
+              (step ∙ ap (λ (x : Answer State). goOn x at m (λ t. running (at + entrySize s) (drop (entrySize s) s) (memoryOf t))) p) in
               (ap (λ (x : Answer (Unit {0})). (x, at)) (told-as ns ms q) ∙ r .0, l ∙ r .1)
 
       pub run-turn : (size : ℕ) → accepted size ≡ entryTaken at s m
@@ -148,8 +162,14 @@ module _ (log : List ℕ) (from at : ℕ) (m m₀ : List ℕ) (inv : running at 
               let z : size ≡ entrySize s = same-accepted size (entrySize s) q in
               let w = taken-whole at s m t p in
               let n : length s ≡ length log - at = ap length es ∙ length-drop at log in
-              let d : drop (entrySize s) s ≡ drop (at + size) log = ap (drop (entrySize s)) es ∙ drop-drop (entrySize s) at log ∙ ap (λ (x : ℕ). drop (at + x) log) (sym z) in
-              let r : running at (drop at log) m ≡ running (at + entrySize s) (drop (entrySize s) s) (memoryOf t) = step ∙ ap (λ (x : Answer State). goOn x at m (λ t. running (at + entrySize s) (drop (entrySize s) s) (memoryOf t))) p in
-              ((rw (z, l) (ap (λ (x : List ℕ). running (at + entrySize s) x (memoryOf t)) (sym (rw z at d)) ∙ sym r ∙ inv)), omega (arith, w .0), omega (arith, w .1))
+              let d : drop (entrySize s) s ≡ drop (at + size) log = ap (drop (entrySize s)) es
+              ∙ drop-drop (entrySize s) at log
+              ∙ ap (λ (x : ℕ). drop (at + x) log) (sym z) in
+              let r : running at (drop at log) m ≡ running (at + entrySize s) (drop (entrySize s) s) (memoryOf t) = step
+              ∙ ap (λ (x : Answer State). goOn x at m (λ t. running (at + entrySize s) (drop (entrySize s) s) (memoryOf t))) p in (
+                (rw (z, l) (ap (λ (x : List ℕ). running (at + entrySize s) x (memoryOf t)) (sym (rw z at d)) ∙ sym r ∙ inv)),
+                omega (arith, w .0),
+                omega (arith, w .1),
+              )
           go (short a n) p q l = absurd (let z : _≡_ {A = ℕ} 0 1 = cc in let b : ⊥ = omega arith in b)
           go (refused ms) p q l = absurd (let z : _≡_ {A = ℕ} 0 1 = cc in let b : ⊥ = omega arith in b)

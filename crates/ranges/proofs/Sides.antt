@@ -49,7 +49,8 @@ ahead-start [] h = ((λ b k. sym (asks-end b)), omega arith, (λ k. k), tt)
 ahead-start (p ∷ ps) h = ((λ b k. refl), omega (arith, h .1), (λ k. omega (arith, h .1)), h .2)
 
 -- behind the first pair's end the pairs behind it lie ahead
-behind : (all : List (ℕ × ℕ)) (to : ℕ) (p : ℕ × ℕ) (ps : List (ℕ × ℕ)) → ((b : ℕ) → to ≤ b → asks all b ≡ asks (p ∷ ps) b) → p .1 ≡ to → Rising (p .1) ps → Ahead all to (orEnd ps)
+behind : (all : List (ℕ × ℕ)) (to : ℕ) (p : ℕ × ℕ) (ps : List (ℕ × ℕ)) → ((b : ℕ) → to ≤ b → asks all b ≡ asks (p ∷ ps) b) → p .1 ≡ to
+    → Rising (p .1) ps → Ahead all to (orEnd ps)
 unfolding Ahead
 behind all to p [] same e h = ((λ b k. same b k ∙ asks-after p [] b (omega arith) ∙ sym (asks-end b)), omega arith, (λ k. k), tt)
 behind all to p (q ∷ qs) same e h = ((λ b k. same b k ∙ asks-after p (q ∷ qs) b (omega arith)), omega (arith, h .1), (λ k. omega (arith, h .0, h .1)), h .2)
@@ -99,7 +100,8 @@ module _ (all : List (ℕ × ℕ)) (at from end : ℕ) (rest : List (ℕ × ℕ)
 -- ---- both sides: a stretch of one label
 
 module _ (rule : Rule) (all₁ all₂ : List (ℕ × ℕ)) (at : ℕ) (inside : at < largest) (f₁ e₁ : ℕ) (r₁ : List (ℕ × ℕ)) (f₂ e₂ : ℕ) (r₂ : List (ℕ × ℕ)) where
-  pub both-stretch : (to l : ℕ) → Ahead all₁ at ((f₁, e₁) ∷ r₁) → Ahead all₂ at ((f₂, e₂) ∷ r₂) → to ≤ edge at f₁ e₁ → to ≤ edge at f₂ e₂ → at < to → to ≤ largest → l ≡ labelOf rule (leb f₁ at) (leb f₂ at)
+  pub both-stretch : (to l : ℕ) → Ahead all₁ at ((f₁, e₁) ∷ r₁) → Ahead all₂ at ((f₂, e₂) ∷ r₂) → to ≤ edge at f₁ e₁ → to ≤ edge at f₂ e₂ → at < to
+      → to ≤ largest → l ≡ labelOf rule (leb f₁ at) (leb f₂ at)
       → runs (labelling rule all₁ all₂) at (largest - at) ≡ inFront at to l (runs (labelling rule all₁ all₂) to (largest - to))
   both-stretch to l h₁ h₂ k₁ k₂ p q e =
       runs-stretch (labelling rule all₁ all₂) l at to largest p q

@@ -24,7 +24,8 @@ use Rattle.ranges.specs.Within.{areaPairs, orEnd}
 use Rattle.ranges.proofs.Tests.{lt?}
 
 module _ (file : LargeFileFlag) (a : List ℕ) (at : ℕ) where
-  pub whole : at + pairSize file ≤ length a → areaPairs file a at ≡ (numberAt a at (sizeWidth file), numberAt a (at + sizeWidth file) (sizeWidth file)) ∷ areaPairs file a (at + pairSize file)
+  pub whole : at + pairSize file ≤ length a
+      → areaPairs file a at ≡ (numberAt a at (sizeWidth file), numberAt a (at + sizeWidth file) (sizeWidth file)) ∷ areaPairs file a (at + pairSize file)
   unfolding areaPairs
   whole h =
       let e : length a - at - pairSize file ≡ length a - (at + pairSize file) = omega arith in
@@ -66,7 +67,8 @@ module _ (file : LargeFileFlag) (a : List ℕ) (at : ℕ) where
   pub area-pair : (x y : ℕ) (next : RequestCursor) → Pair x y next ≡ nextRequest a file at → (x, y) ∷ areaPairs file a (next .at) ≡ orEnd (areaPairs file a at)
   area-pair x y next e = rw (area-step x y next e .0)
 
-  pub area-end : (s : Side) → End ≡ nextRequest a file at → s ≡ record { from = largest; to = largest; next = at } → (s .from, s .to) ∷ areaPairs file a (s .next) ≡ orEnd (areaPairs file a at)
+  pub area-end : (s : Side) → End ≡ nextRequest a file at → s ≡ record { from = largest; to = largest; next = at }
+      → (s .from, s .to) ∷ areaPairs file a (s .next) ≡ orEnd (areaPairs file a at)
   area-end s e k = ap (λ (r : Side). (r .from, r .to) ∷ areaPairs file a (r .next)) k ∙ rw (area-over e)
 
 module _ (ns : List ℕ) (at : ℕ) where
@@ -75,9 +77,11 @@ module _ (ns : List ℕ) (at : ℕ) where
   twos-short (x ∷ []) h = refl
   twos-short (x ∷ y ∷ l) h = absurd (let b : ⊥ = omega arith in b)
 
-  pub numbers-end : (s : Side) → length ns < at + 2 → s ≡ record { from = largest; to = largest; next = at } → (s .from, s .to) ∷ twos (drop (s .next) ns) ≡ orEnd (twos (drop at ns))
+  pub numbers-end : (s : Side) → length ns < at + 2 → s ≡ record { from = largest; to = largest; next = at }
+      → (s .from, s .to) ∷ twos (drop (s .next) ns) ≡ orEnd (twos (drop at ns))
   numbers-end s h e =
-      ap (λ (r : Side). (r .from, r .to) ∷ twos (drop (r .next) ns)) e ∙ rw (twos-short (drop at ns) (let k : length (drop at ns) < 2 = omega (arith, length-drop at ns) in k))
+      ap (λ (r : Side). (r .from, r .to) ∷ twos (drop (r .next) ns)) e
+      ∙ rw (twos-short (drop at ns) (let k : length (drop at ns) < 2 = omega (arith, length-drop at ns) in k))
 
   pub numbers-pair : at + 2 ≤ length ns → (getD ns at 0, getD ns (at + 1) 0) ∷ twos (drop (at + 2) ns) ≡ orEnd (twos (drop at ns))
   numbers-pair h =

@@ -53,7 +53,10 @@ runs-like f g at n h = runs-only g at n (runs f at n) (runs-apart f at n) (λ b 
 
 -- the pairs of the bytes that are in ask for those
 pub in-ask : (g : ℕ → Bool) (n b : ℕ) → b < n → asks (spans (runs (inOrNot g) 0 n)) b ≡ g b
-in-ask g n b h = spans-ask 0 0 (runs (inOrNot g) 0 n) b (runs-apart (inOrNot g) 0 n) ∙ ap (λ (x : ℕ). not (eqb x 0)) (runs-label (inOrNot g) 0 n b (omega arith) (omega arith)) ∙ go (g b)
+in-ask g n b h =
+    spans-ask 0 0 (runs (inOrNot g) 0 n) b (runs-apart (inOrNot g) 0 n)
+    ∙ ap (λ (x : ℕ). not (eqb x 0)) (runs-label (inOrNot g) 0 n b (omega arith) (omega arith))
+    ∙ go (g b)
   where
     go : (c : Bool) → not (eqb (if c then 1 else 0) 0) ≡ c
     go true = refl
@@ -65,16 +68,21 @@ in-rise g n = spans-rise 0 0 (runs (inOrNot g) 0 n) (runs-apart (inOrNot g) 0 n)
 -- what is in, and more pairs: in either, or in the first alone
 pub either-in : (g : ℕ → Bool) (ps : List (ℕ × ℕ)) → merged Either (spans (runs (inOrNot g) 0 largest)) ps ≡ runs (inOrNot (λ b. g b || asks ps b)) 0 largest
 unfolding merged
-either-in g ps = runs-like (labelling Either (spans (runs (inOrNot g) 0 largest)) ps) (inOrNot (λ b. g b || asks ps b)) 0 largest (λ b p q. ap (λ (x : Bool). labelOf Either x (asks ps b)) (in-ask g largest b (omega arith)) ∙ go (g b) (asks ps b))
+either-in g ps =
+    runs-like (labelling Either (spans (runs (inOrNot g) 0 largest)) ps) (inOrNot (λ b. g b || asks ps b)) 0 largest
+    (λ b p q. ap (λ (x : Bool). labelOf Either x (asks ps b)) (in-ask g largest b (omega arith)) ∙ go (g b) (asks ps b))
   where
     go : (c d : Bool) → labelOf Either c d ≡ (if c || d then 1 else 0)
     go true d = refl
     go false true = refl
     go false false = refl
 
-pub without-in : (g : ℕ → Bool) (ps : List (ℕ × ℕ)) → merged Without (spans (runs (inOrNot g) 0 largest)) ps ≡ runs (inOrNot (λ b. g b && not (asks ps b))) 0 largest
+pub without-in : (g : ℕ → Bool) (ps : List (ℕ × ℕ))
+    → merged Without (spans (runs (inOrNot g) 0 largest)) ps ≡ runs (inOrNot (λ b. g b && not (asks ps b))) 0 largest
 unfolding merged
-without-in g ps = runs-like (labelling Without (spans (runs (inOrNot g) 0 largest)) ps) (inOrNot (λ b. g b && not (asks ps b))) 0 largest (λ b p q. ap (λ (x : Bool). labelOf Without x (asks ps b)) (in-ask g largest b (omega arith)) ∙ go (g b) (asks ps b))
+without-in g ps =
+    runs-like (labelling Without (spans (runs (inOrNot g) 0 largest)) ps) (inOrNot (λ b. g b && not (asks ps b))) 0 largest
+    (λ b p q. ap (λ (x : Bool). labelOf Without x (asks ps b)) (in-ask g largest b (omega arith)) ∙ go (g b) (asks ps b))
   where
     go : (c d : Bool) → labelOf Without c d ≡ (if c && not d then 1 else 0)
     go true true = refl
@@ -94,12 +102,18 @@ spans-as-runs (p ∷ ps) = ap (λ (x : List (ℕ × ℕ)). p ∷ x) (spans-as-ru
 
 as-runs-behind : (e k : ℕ) (ps : List (ℕ × ℕ)) → ApartBehind e ps → ApartFrom e k (asRuns ps)
 as-runs-behind e k [] h = tt
-as-runs-behind e k (p ∷ ps) h =
-    (omega (arith, h .0), h .1, (λ z. absurd (let b : ⊥ = omega arith in b)), (λ u v. absurd (let b : ⊥ = omega (arith, h .0) in b)), as-runs-behind (p .1) 1 ps (h .2))
+as-runs-behind e k (p ∷ ps) h = (
+  omega (arith, h .0),
+  h .1,
+  (λ z. absurd (let b : ⊥ = omega arith in b)),
+  (λ u v. absurd (let b : ⊥ = omega (arith, h .0) in b)),
+  as-runs-behind (p .1) 1 ps (h .2),
+)
 
 as-runs-apart : (ps : List (ℕ × ℕ)) → Apart ps → ApartFrom 0 0 (asRuns ps)
 as-runs-apart [] h = tt
-as-runs-apart (p ∷ ps) h = (omega arith, h .0, (λ z. absurd (let b : ⊥ = omega arith in b)), (λ u v. absurd (let b : ⊥ = omega arith in b)), as-runs-behind (p .1) 1 ps (h .1))
+as-runs-apart (p ∷ ps) h =
+    (omega arith, h .0, (λ z. absurd (let b : ⊥ = omega arith in b)), (λ u v. absurd (let b : ⊥ = omega arith in b)), as-runs-behind (p .1) 1 ps (h .1))
 
 as-runs-label : (ps : List (ℕ × ℕ)) (b : ℕ) → labelIn (asRuns ps) b ≡ (if asks ps b then 1 else 0)
 as-runs-label [] b = refl
@@ -110,7 +124,8 @@ as-runs-label (p ∷ ps) b = go (leb (p .0) b && ltb b (p .1)) (as-runs-label ps
     go false h = h
 
 -- 'they ask for exactly the missing bytes', with bytes g missing below n
-pub apart-exact : (g : ℕ → Bool) (n : ℕ) (ps : List (ℕ × ℕ)) → Apart ps → ((b : ℕ) → b < n → asks ps b ≡ g b) → ((b : ℕ) → n ≤ b → asks ps b ≡ false) → ps ≡ spans (runs (inOrNot g) 0 n)
+pub apart-exact : (g : ℕ → Bool) (n : ℕ) (ps : List (ℕ × ℕ)) → Apart ps → ((b : ℕ) → b < n → asks ps b ≡ g b) → ((b : ℕ) → n ≤ b → asks ps b ≡ false)
+    → ps ≡ spans (runs (inOrNot g) 0 n)
 apart-exact g n ps h same none =
     sym (spans-as-runs ps)
     ∙ ap spans
@@ -154,4 +169,6 @@ in-apart g n = spans-apart 0 (runs (inOrNot g) 0 n) (runs-apart (inOrNot g) 0 n)
     bit false = omega arith
 
     most : (b : ℕ) → 0 ≤ b → labelIn (runs (inOrNot g) 0 n) b ≤ 1
-    most b p = ⊎-elim (λ u. rw (runs-label (inOrNot g) 0 n b p (let q : b < 0 + n = omega arith in q)) (bit (g b))) (λ u. rw (runs-beyond (inOrNot g) 0 n b (let q : 0 + n ≤ b = omega arith in q)) (omega arith)) (lt? b n)
+    most b p =
+        ⊎-elim (λ u. rw (runs-label (inOrNot g) 0 n b p (let q : b < 0 + n = omega arith in q)) (bit (g b)))
+        (λ u. rw (runs-beyond (inOrNot g) 0 n b (let q : 0 + n ≤ b = omega arith in q)) (omega arith)) (lt? b n)

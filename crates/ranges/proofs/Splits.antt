@@ -77,7 +77,8 @@ module _ (at : ℕ) (xs ys m : List ℕ) (h : entrySize xs ≤ length xs) where
 
 -- ---- one part and then the other
 
-then-on : (o : Answer State) (at : ℕ) (m : List ℕ) (f : State → Ran) (more : List ℕ → Ran) → thenRun (goOn o at m f) more ≡ goOn o at m (λ t. thenRun (f t) more)
+then-on : (o : Answer State) (at : ℕ) (m : List ℕ) (f : State → Ran) (more : List ℕ → Ran)
+    → thenRun (goOn o at m f) more ≡ goOn o at m (λ t. thenRun (f t) more)
 then-on (accepted t) at m f more = refl
 then-on (short l n) at m f more = refl
 then-on (refused ns) at m f more = refl
@@ -105,14 +106,17 @@ splits-some at xs ys m uncut some more =
     let sum : at + entrySize xs + length (drop (entrySize xs) xs) ≡ at + length xs = omega (arith, length-drop (entrySize xs) xs) in
     running-some at (xs ++ ys) m all
     ∙ ap (λ (o : Answer State). goOn o at m (rest (xs ++ ys))) (same-entry at xs ys m w)
-    ∙ go-on-like (entering at xs m) at m (rest (xs ++ ys)) (λ t. thenRun (rest xs t) (running (at + length xs) ys)) (λ t e. ap₂ (λ (k : ℕ) (s : List ℕ). running (at + k) s (memoryOf t)) size (ap (λ (k : ℕ). drop k (xs ++ ys)) size ∙ drop-append-le (entrySize xs) xs ys w) ∙ more t (omega (arith, length-drop (entrySize xs) xs, taken-whole at xs m t e .1)) ∙ ap (λ (k : ℕ). thenRun (rest xs t) (running k ys)) sum)
+    ∙ go-on-like (entering at xs m) at m (rest (xs ++ ys)) (λ t. thenRun (rest xs t) (running (at + length xs) ys))
+    (λ t e. ap₂ (λ (k : ℕ) (s : List ℕ). running (at + k) s (memoryOf t)) size (ap (λ (k : ℕ). drop k (xs ++ ys)) size ∙ drop-append-le (entrySize xs) xs ys w) ∙ more t (omega (arith, length-drop (entrySize xs) xs, taken-whole at xs m t e .1)) ∙ ap (λ (k : ℕ). thenRun (rest xs t) (running k ys)) sum)
     ∙ sym (then-on (entering at xs m) at m (rest xs) (running (at + length xs) ys))
     ∙ sym (ap (λ (r : Ran). thenRun r (running (at + length xs) ys)) (running-some at xs m some))
 
 splits : (n at : ℕ) (xs ys m : List ℕ) → length xs ≤ n → firstCut LongTlv xs 0 ≡ Nothing → Splits at xs ys m
 splits zero at xs ys m h uncut = splits-none at xs ys m (omega arith)
 splits (suc n) at xs ys m h uncut =
-    ⊎-elim (λ e. splits-none at xs ys m e) (λ e. splits-some at xs ys m uncut e (λ t l. splits n (at + entrySize xs) (drop (entrySize xs) xs) ys (memoryOf t) (omega arith) (rest-uncut xs uncut e))) (eq? (length xs) 0)
+    ⊎-elim (λ e. splits-none at xs ys m e)
+    (λ e. splits-some at xs ys m uncut e (λ t l. splits n (at + entrySize xs) (drop (entrySize xs) xs) ys (memoryOf t) (omega arith) (rest-uncut xs uncut e)))
+    (eq? (length xs) 0)
 
 pub splits-between-entries : SplitsBetweenEntries
 splits-between-entries at xs ys m uncut = splits (length xs) at xs ys m (omega arith) uncut

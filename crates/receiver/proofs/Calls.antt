@@ -47,7 +47,8 @@ call-window [] r = go (status r) refl
     go (refused ns) e = rw (call-refused r [] ns e)
 call-window (b ∷ bs) r = go (status r) refl (call-window bs (put r b))
   where
-    go : (o : Answer Nak) → status r ≡ o → length (call (put r b) bs .leaves .window) ≡ length (put r b .window) → length (call r (b ∷ bs) .leaves .window) ≡ length (r .window)
+    go : (o : Answer Nak) → status r ≡ o → length (call (put r b) bs .leaves .window) ≡ length (put r b .window)
+        → length (call r (b ∷ bs) .leaves .window) ≡ length (r .window)
     go (accepted n) e rest = rw (call-nak r (b ∷ bs) n e)
     go (short l n) e rest = rw (call-one r b bs l n e) (rest ∙ length-set (r .window) (r .filled) b)
     go (refused ns) e rest = rw (call-refused r (b ∷ bs) ns e)
@@ -82,7 +83,9 @@ waits-for w at l n k e =
 -- the window with bytes behind those that were there
 pub behind : (w : List ℕ) (at : ℕ) (xs : List ℕ) → at + length xs ≤ length w → take (at + length xs) (sets w at xs) ≡ take at w ++ xs
 behind w at xs k =
-    ap (take (at + length xs)) (sets-eq xs w at k) ∙ take-at (take at w ++ xs) (drop (at + length xs) w) (at + length xs) (omega (arith, length-append (take at w) xs, length-take-le at w (omega arith)))
+    ap (take (at + length xs)) (sets-eq xs w at k)
+    ∙ take-at (take at w ++ xs) (drop (at + length xs) w) (at + length xs)
+    (omega (arith, length-append (take at w) xs, length-take-le at w (omega arith)))
 
 -- below the named length the need stays
 pub still-waits : (w : List ℕ) (at : ℕ) (xs : List ℕ) (l n : ℕ) → length w ≡ windowLength → status (stateOf w at) ≡ short l n → at + length xs < n
@@ -148,7 +151,8 @@ module _ (w f : List ℕ) (at taken : ℕ) (whole : Call) (rest : moreBy taken (
 
   module _ (k : length w ≡ windowLength) (inside : taken ≤ length f) (l n : ℕ) (s : short l n ≡ run receiving (take at w)) where
     -- j bytes more, up to the named length
-    stored : (j : ℕ) (w′ : List ℕ) → j ≤ length f - taken → at + j ≤ n → w′ ≡ sets w at (take j (drop taken f)) → moreBy (taken + j) (call (stateOf w′ (at + j)) (drop (taken + j) f)) ≡ whole
+    stored : (j : ℕ) (w′ : List ℕ) → j ≤ length f - taken → at + j ≤ n → w′ ≡ sets w at (take j (drop taken f))
+        → moreBy (taken + j) (call (stateOf w′ (at + j)) (drop (taken + j) f)) ≡ whole
     unfolding status
     stored j w′ a b e =
         let xs = take j (drop taken f) in

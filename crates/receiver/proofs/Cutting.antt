@@ -44,11 +44,14 @@ fresh-waits = record { found = 0; need = 4; says = empty-waits }
 
 abbrev Goes : Outcomes → Receiver → List ℕ → List ℕ → Call → Type 0
 Goes more r f g c = (stream r (f ++ g) ≡ stream (c .leaves) g) × Waiting (c .leaves)
-Goes (nak n) r f g c = (stream r (f ++ g) ≡ andBefore (shown n (c .leaves .window)) (stream (c .leaves) (drop (c .taken) f ++ g))) × Waiting (c .leaves) × (length (drop (c .taken) f) < length f)
+Goes (nak n) r f g c =
+    (stream r (f ++ g) ≡ andBefore (shown n (c .leaves .window)) (stream (c .leaves) (drop (c .taken) f ++ g))) × Waiting (c .leaves) ×
+    (length (drop (c .taken) f) < length f)
 Goes (refusal ns) r f g c = stream r (f ++ g) ≡ record { naks = []; ends = refusal ns; leaves = c .leaves }
 
 -- one byte before it
-one-before : (o : Outcomes) (r q : Receiver) (b : ℕ) (bs g : List ℕ) (c : Call) → stream r (b ∷ bs ++ g) ≡ stream q (bs ++ g) → Goes o q bs g c → Goes o r (b ∷ bs) g (oneMore c)
+one-before : (o : Outcomes) (r q : Receiver) (b : ℕ) (bs g : List ℕ) (c : Call) → stream r (b ∷ bs ++ g) ≡ stream q (bs ++ g) → Goes o q bs g c
+    → Goes o r (b ∷ bs) g (oneMore c)
 one-before more r q b bs g c e h = (e ∙ h .0, h .1)
 one-before (nak n) r q b bs g c e h = (e ∙ h .0, h .1, omega (arith, h .2))
 one-before (refusal ns) r q b bs g c e h = e ∙ h
@@ -77,11 +80,14 @@ hears (suc rounds) r (f ∷ fs) w h = go (call r f .gives) (follows f r (endToEn
     c : Call
     c = call r f
 
-    go : (o : Outcomes) → Goes o r f (endToEnd fs) c → ((q : Receiver) (gs : List (List ℕ)) → Waiting q → Enough rounds gs → session rounds q gs ≡ stream q (endToEnd gs))
+    go : (o : Outcomes) → Goes o r f (endToEnd fs) c
+        → ((q : Receiver) (gs : List (List ℕ)) → Waiting q → Enough rounds gs → session rounds q gs ≡ stream q (endToEnd gs))
         → goOn o c f fs (session rounds) ≡ stream r (f ++ endToEnd fs)
     go more k again = again (c .leaves) fs (k .1) (omega (arith, length-append f (endToEnd fs))) ∙ sym (k .0)
     go (nak n) k again =
-        ap (andBefore (shown n (c .leaves .window))) (again (c .leaves) (drop (c .taken) f ∷ fs) (k .1) (omega (arith, k .2, length-append f (endToEnd fs), length-append (drop (c .taken) f) (endToEnd fs)))) ∙ sym (k .0)
+        ap (andBefore (shown n (c .leaves .window)))
+        (again (c .leaves) (drop (c .taken) f ∷ fs) (k .1) (omega (arith, k .2, length-append f (endToEnd fs), length-append (drop (c .taken) f) (endToEnd fs))))
+        ∙ sym (k .0)
     go (refusal ns) k again = sym k
 
 pub however-cut : HoweverCut

@@ -42,7 +42,8 @@ module _ (s t : List ℕ) (n : Nak) (e : run readingNak (s ++ t) ≡ accepted n)
           let f : Final (run receiving s) = subst Final (sym d) tt in
           let q : accepted m ≡ accepted n = sym (receiving-demand3 .final s t f ∙ d) ∙ whole-read in
           let m≡n : m ≡ n = cc in
-          let p : pduLength (n .header) ≤ length s = subst (λ (x : Nak). pduLength (x .header) ≤ length s) m≡n (nak-long s m (read-again s m (omega (arith, length-append s t)) d)) in
+          let p : pduLength (n .header) ≤ length s = subst (λ (x : Nak). pduLength (x .header) ≤ length s) m≡n
+          (nak-long s m (read-again s m (omega (arith, length-append s t)) d)) in
           absurd (let b : ⊥ = omega arith in b)
       go (short j m) d = record { found = j; need = m; says = d }
       go (refused ns) d =
@@ -86,7 +87,8 @@ given-behind (x ∷ y ∷ s) pre w at n g z k p l e whole holds =
     let b : length ((pre ++ (x ∷ [])) ++ (y ∷ s)) ≡ length (pre ++ (x ∷ y ∷ s)) = ap length a in
     let q = begins-short (pre ++ (x ∷ [])) (y ∷ s) n e′ (omega arith) (omega arith) in
     let r : run receiving (take (suc at) (set w at x)) ≡ short (q .found) (q .need) = ap (run receiving) t ∙ q .says in
-    let rest = subst (λ (bytes : List ℕ). Behind n bytes (set w at x) (suc at) (y ∷ s) g) a (given-behind (y ∷ s) (pre ++ (x ∷ [])) (set w at x) (suc at) n g (omega arith) (length-set w at x ∙ k) t j e′ (b ∙ whole) (omega arith)) in
+    let rest = subst (λ (bytes : List ℕ). Behind n bytes (set w at x) (suc at) (y ∷ s) g) a
+    (given-behind (y ∷ s) (pre ++ (x ∷ [])) (set w at x) (suc at) n g (omega arith) (length-set w at x ∙ k) t j e′ (b ∙ whole) (omega arith)) in
     record { window = rest .window; same = rest .same; is = rw r (rest .is) }
 
 -- ---- PDU behind PDU
@@ -100,7 +102,8 @@ allShown ps = map (λ (p : Pdu). shown (p .whole .nak) (p .bytes)) ps
 all-given : (ps : List Pdu) (w : List ℕ) → length w ≡ windowLength → AllGiven (allShown ps) (stream (stateOf w 0) (allBytes ps))
 all-given [] w k = record { naks = refl; ends = refl; begins = refl }
 all-given (p ∷ ps) w k =
-    let b = given-behind (p .bytes) [] w 0 (p .whole .nak) (allBytes ps) (omega (arith, at-least (p .whole .nak .header) (length (p .bytes)) (p .whole .ends))) k refl refl (p .whole .read) (p .whole .ends) (p .holds) in
+    let b = given-behind (p .bytes) [] w 0 (p .whole .nak) (allBytes ps)
+    (omega (arith, at-least (p .whole .nak .header) (length (p .bytes)) (p .whole .ends))) k refl refl (p .whole .read) (p .whole .ends) (p .holds) in
     let rest = all-given ps (b .window) (b .same) in
     subst (AllGiven (allShown (p ∷ ps))) (sym (b .is))
     record { naks = ap (λ (ns : List Given). shown (p .whole .nak) (p .bytes) ∷ ns) (rest .naks); ends = rest .ends; begins = rest .begins }
@@ -108,7 +111,8 @@ all-given (p ∷ ps) w k =
 pub laid-end-to-end : LaidEndToEnd
 unfolding fresh
 laid-end-to-end ps fs m e h =
-    subst (AllGiven (allShown ps)) (sym (hears m fresh fs fresh-waits h ∙ ap (stream fresh) e)) (all-given ps (fresh .window) (length-replicate {A = ℕ} windowLength 0))
+    subst (AllGiven (allShown ps)) (sym (hears m fresh fs fresh-waits h ∙ ap (stream fresh) e))
+    (all-given ps (fresh .window) (length-replicate {A = ℕ} windowLength 0))
 
 -- ---- of what was written
 
@@ -130,7 +134,8 @@ module _ (w : Written) where
 
   shows : shown (given .nak) (bytesOf k) ≡ given
   shows =
-      let pairs : pairsOf (given .nak .header .file) (areaOf (given .nak) (bytesOf k)) ≡ given .requests = rw (turns-length (k .numbers), ← alone) (archived-back k [] .pairs) in
+      let pairs : pairsOf (given .nak .header .file) (areaOf (given .nak) (bytesOf k)) ≡ given .requests = rw (turns-length (k .numbers), ← alone)
+      (archived-back k [] .pairs) in
       ap (λ (rs : List (ℕ × ℕ)). record { nak = given .nak; requests = rs }) pairs
 
 written-bytes : (ws : List Written) → allBytes (map pduOf ws) ≡ archive (map (λ (w : Written). w .nak) ws)
@@ -144,4 +149,5 @@ written-shown [] = refl
 written-shown (w ∷ ws) = ap₂ (λ (x : Given) (xs : List Given). x ∷ xs) (shows w) (written-shown ws)
 
 pub written-are-given : WrittenAreGiven
-written-are-given ws fs m e h = subst (λ (ns : List Given). AllGiven ns (session m fresh fs)) (written-shown ws) (laid-end-to-end (map pduOf ws) fs m (e ∙ sym (written-bytes ws)) h)
+written-are-given ws fs m e h =
+    subst (λ (ns : List Given). AllGiven ns (session m fresh fs)) (written-shown ws) (laid-end-to-end (map pduOf ws) fs m (e ∙ sym (written-bytes ws)) h)

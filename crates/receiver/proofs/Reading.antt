@@ -41,7 +41,8 @@ in-stages s = run-bind readingHeader _ s ∙ go (run readingHeader s) refl ∙ s
   where
     go : (o : Answer PduHeader) → run readingHeader s ≡ o → andThen o (λ h. run (test (aboveWindow h) >> readingNak) s) ≡ andThen o (λ h. run (behind h) s)
     go (accepted h) e =
-        ap (λ (x : Answer Nak). if ltb windowLength (pduLength h) then refused (22 ∷ []) else x) (sym (accepted-bind readingHeader nakBehind s h (sym e) ∙ headed-nak s))
+        ap (λ (x : Answer Nak). if ltb windowLength (pduLength h) then refused (22 ∷ []) else x)
+        (sym (accepted-bind readingHeader nakBehind s h (sym e) ∙ headed-nak s))
     go (short l n) e = refl
     go (refused ns) e = refl
 
@@ -85,7 +86,10 @@ capped-same (refused ns) k = refl
 
 pub capped-reading : (s : List ℕ) → length s ≤ windowLength → run receiving s ≡ capped (run readingNak s)
 capped-reading s k =
-    in-stages s ∙ run-bind readingHeader behind s ∙ go (run readingHeader s) (asks-said windowLength readingHeader s header-ask) ∙ ap capped (sym (run-bind readingHeader nakBehind s) ∙ headed-nak s)
+    in-stages s
+    ∙ run-bind readingHeader behind s
+    ∙ go (run readingHeader s) (asks-said windowLength readingHeader s header-ask)
+    ∙ ap capped (sym (run-bind readingHeader nakBehind s) ∙ headed-nak s)
   where
     by : (h : PduHeader) (c : Bool) → ltb windowLength (pduLength h) ≡ c → (if c then refused (22 ∷ []) else run (nakBehind h) s) ≡ capped (run (nakBehind h) s)
     by h true e =

@@ -23,7 +23,8 @@ unfolding put
 not-yet [] ys w at n h = rw (add-zero at)
 not-yet (x ∷ xs) ys w at n h =
     let p : suc at + length xs ≡ at + suc (length xs) = omega arith in
-    rw (lt-ltb at n (omega arith)) (not-yet xs ys (set w at x) (suc at) n (omega arith) ∙ ap (λ (i : ℕ). shortsAt n (stateOf (sets (set w at x) (suc at) xs) i) ys) p)
+    rw (lt-ltb at n (omega arith))
+    (not-yet xs ys (set w at x) (suc at) n (omega arith) ∙ ap (λ (i : ℕ). shortsAt n (stateOf (sets (set w at x) (suc at) xs) i) ys) p)
 
 reads-now : (n : ℕ) (r : Receiver) (f : List ℕ) → n ≤ r .filled → shortsAt n r f ≡ shortReadings r f
 unfolding shortReadings
@@ -49,11 +50,14 @@ module _ (w : List ℕ) (at l n : ℕ) (e : status (stateOf w at) ≡ short l n)
   one-short [] h = rw (le-ltb at 0 zero-le, e)
   one-short (x ∷ xs) h =
       let none : shortsAt n (stateOf (set w at x) (suc at)) xs ≡ 0 =
-      ap (shortsAt n (stateOf (set w at x) (suc at))) (sym (append-nil xs)) ∙ not-yet xs [] (set w at x) (suc at) n (omega arith) ∙ rw (lt-ltb (suc at + length xs) n (omega arith)) in
+      ap (shortsAt n (stateOf (set w at x) (suc at))) (sym (append-nil xs))
+      ∙ not-yet xs [] (set w at x) (suc at) n (omega arith)
+      ∙ rw (lt-ltb (suc at + length xs) n (omega arith)) in
       rw (le-ltb at 0 zero-le, e) (ap suc none)
 
   -- a short one, and it has them
-  pub one-more-short : (xs ys : List ℕ) → at < n → at + length xs ≡ n → shortReadings (stateOf w at) (xs ++ ys) ≡ suc (shortReadings (stateOf (sets w at xs) n) ys)
+  pub one-more-short : (xs ys : List ℕ) → at < n → at + length xs ≡ n
+      → shortReadings (stateOf w at) (xs ++ ys) ≡ suc (shortReadings (stateOf (sets w at xs) n) ys)
   unfolding shortReadings put
   one-more-short [] ys b p = absurd (let z : ⊥ = omega arith in z)
   one-more-short (x ∷ xs) ys b p =
@@ -66,7 +70,8 @@ module _ (w : List ℕ) (at l n : ℕ) (e : status (stateOf w at) ≡ short l n)
 
 -- ---- a call's end: what was handed over is given
 
-pub at-end : (x y : Counted) (w : List ℕ) (whole : Call) (n : ℕ) → x ≡ y → callOf (y .received) w ≡ whole → y .shorts ≡ n → (callOf (x .received) w ≡ whole) × (x .shorts ≡ n)
+pub at-end : (x y : Counted) (w : List ℕ) (whole : Call) (n : ℕ) → x ≡ y → callOf (y .received) w ≡ whole → y .shorts ≡ n
+    → (callOf (x .received) w ≡ whole) × (x .shorts ≡ n)
 at-end x y w whole n e a b = (ap (λ (z : Counted). callOf (z .received) w) e ∙ a, ap (λ (z : Counted). z .shorts) e ∙ b)
 
 -- ---- a call in its loop: `shorts` readings were short, and with those that are to come there are as many as in the whole

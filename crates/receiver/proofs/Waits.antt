@@ -51,7 +51,9 @@ module _ (w : List ℕ) (at l n : ℕ) (k : length w ≡ windowLength) (e : stat
   one-more-there xs p =
       let v = waits in
       let t : take n (sets w at xs) ≡ take at w ++ xs = ap (λ (i : ℕ). take i (sets w at xs)) (sym p) ∙ behind w at xs (omega (arith, v .within)) in
-      let j : length (take at w ++ xs) ≡ n = length-append (take at w) xs ∙ ap (λ (i : ℕ). i + length xs) (length-take-le at w (omega (arith, v .within, v .below))) ∙ p in
+      let j : length (take at w ++ xs) ≡ n = length-append (take at w) xs
+      ∙ ap (λ (i : ℕ). i + length xs) (length-take-le at w (omega (arith, v .within, v .below)))
+      ∙ p in
       subst (λ (s : List ℕ). there w at < reached inStages s) (sym t) (reached-more inStages (take at w) xs l n staged-short (omega arith))
 
   -- and with fewer no less
@@ -153,13 +155,17 @@ counts (suc m) r f h k = go (status r) refl (λ q g j i. counts m q g j i)
     go (accepted n) e again =
         record {
           few = omega (arith, none-nak r f n e, at-most (r .window) (r .filled));
-          once = λ d. let y : nak n ≡ more = sym (ap (λ (x : Call). x .gives) (call-nak r f n e)) ∙ d in let z : _≡_ {A = ℕ} 0 1 = cc in absurd (let b : ⊥ = omega arith in b);
+          once =
+              λ d. let y : nak n ≡ more = sym (ap (λ (x : Call). x .gives) (call-nak r f n e))
+              ∙ d in let z : _≡_ {A = ℕ} 0 1 = cc in absurd (let b : ⊥ = omega arith in b);
         }
     go (short l n) e again = by l n e (ltb (length f) (n - r .filled)) refl again
     go (refused ns) e again =
         record {
           few = omega (arith, none-refused r f ns e, at-most (r .window) (r .filled));
-          once = λ d. let y : refusal ns ≡ more = sym (ap (λ (x : Call). x .gives) (call-refused r f ns e)) ∙ d in let z : _≡_ {A = ℕ} 0 1 = cc in absurd (let b : ⊥ = omega arith in b);
+          once =
+              λ d. let y : refusal ns ≡ more = sym (ap (λ (x : Call). x .gives) (call-refused r f ns e))
+              ∙ d in let z : _≡_ {A = ℕ} 0 1 = cc in absurd (let b : ⊥ = omega arith in b);
         }
 
 in-call : (r : Receiver) (f : List ℕ) → length (r .window) ≡ windowLength → Counts r f
@@ -173,7 +179,8 @@ few-shorts r f k = omega (arith, in-call r f k .few)
 abbrev FewFor : Receiver → List ℕ → List (List ℕ) → ℕ → Type 0
 FewFor r f fs rest = shortReadings r f + rest + there (r .window) (r .filled) ≤ 4 + length fs
 
-a-pdu : (r : Receiver) (f : List ℕ) (fs : List (List ℕ)) → length (r .window) ≡ windowLength → FewFor r f fs (andOn (call r f .gives) (allShorts (call r f .leaves) fs))
+a-pdu : (r : Receiver) (f : List ℕ) (fs : List (List ℕ)) → length (r .window) ≡ windowLength
+    → FewFor r f fs (andOn (call r f .gives) (allShorts (call r f .leaves) fs))
 a-pdu r f [] k = go (call r f .gives)
   where
     go : (o : Outcomes) → FewFor r f [] (andOn o 0)
@@ -185,7 +192,8 @@ a-pdu r f (g ∷ gs) k = go (call r f .gives) refl (a-pdu (call r f .leaves) g g
     q : Receiver
     q = call r f .leaves
 
-    go : (o : Outcomes) → call r f .gives ≡ o → FewFor q g gs (andOn (call q g .gives) (allShorts (call q g .leaves) gs)) → FewFor r f (g ∷ gs) (andOn o (allShorts q (g ∷ gs)))
+    go : (o : Outcomes) → call r f .gives ≡ o → FewFor q g gs (andOn (call q g .gives) (allShorts (call q g .leaves) gs))
+        → FewFor r f (g ∷ gs) (andOn o (allShorts q (g ∷ gs)))
     go more e rest = omega (arith, in-call r f k .once e, rest)
     go (nak n) e rest = omega (arith, in-call r f k .few)
     go (refusal ns) e rest = omega (arith, in-call r f k .few)

@@ -47,7 +47,8 @@ take-least w i = go (ltb (length w) i) refl
         let m : min i (length w) ≡ i = omega arith in
         rw m
 
-pub window-says : (w : List ℕ) (filled end : ℕ) (o : Answer Nak) → length w ≡ windowLength → end ≡ min filled (length w) → o ≡ run readingNak (take end w) → capped o ≡ run receiving (take filled w)
+pub window-says : (w : List ℕ) (filled end : ℕ) (o : Answer Nak) → length w ≡ windowLength → end ≡ min filled (length w)
+    → o ≡ run readingNak (take end w) → capped o ≡ run receiving (take filled w)
 window-says w filled end o k e q =
     let t : take end w ≡ take filled w = ap (λ (i : ℕ). take i w) e ∙ take-least w filled in
     let l : length (take filled w) ≤ windowLength = omega (arith, length-take filled w) in

@@ -38,7 +38,8 @@ module _ (form : Form) (s : List ℕ) (p : ℕ) (inside : p ≤ length s) where
 
   length-there : (at : ℕ) → lengthAt form D at ≡ lengthAt form s (p + at)
   unfolding lengthAt
-  length-there at = number-behind s p (at + tagBytes form) (lengthBytes form) ∙ ap (λ (n : ℕ). numberAt s n (lengthBytes form)) (sym (add-assoc p at (tagBytes form)))
+  length-there at =
+      number-behind s p (at + tagBytes form) (lengthBytes form) ∙ ap (λ (n : ℕ). numberAt s n (lengthBytes form)) (sym (add-assoc p at (tagBytes form)))
 
   stop-there : (at : ℕ) → p + stopAt form D at ≡ stopAt form s (p + at)
   stop-there at = omega (arith, length-there at)
@@ -51,10 +52,12 @@ module _ (form : Form) (s : List ℕ) (p : ℕ) (inside : p ≤ length s) where
       let m : stopAt form D at - (at + headBytes form) ≡ L = omega (arith, length-there at) in
       let n : stopAt form s (p + at) - (p + at + headBytes form) ≡ L = omega arith in
       let q : p + (at + headBytes form) ≡ p + at + headBytes form = omega arith in
-      let v : valueOf (fieldAt form D at) D ≡ take (stopAt form D at - (at + headBytes form)) (drop (at + headBytes form) D) = sym (within (fieldAt form D at) D (omega arith) l) in
+      let v : valueOf (fieldAt form D at) D ≡ take (stopAt form D at - (at + headBytes form)) (drop (at + headBytes form) D) = sym
+      (within (fieldAt form D at) D (omega arith) l) in
       let u : valueOf (fieldAt form s (p + at)) s ≡ take (stopAt form s (p + at) - (p + at + headBytes form)) (drop (p + at + headBytes form) s) =
       sym (within (fieldAt form s (p + at)) s (omega arith) k) in
-      let w : take (stopAt form D at - (at + headBytes form)) (drop (at + headBytes form) D) ≡ take (stopAt form s (p + at) - (p + at + headBytes form)) (drop (p + at + headBytes form) s) =
+      let w : take (stopAt form D at - (at + headBytes form)) (drop (at + headBytes form) D) ≡ take
+      (stopAt form s (p + at) - (p + at + headBytes form)) (drop (p + at + headBytes form) s) =
       ap₂ (λ (a : ℕ) (b : List ℕ). take a b) (m ∙ sym n) (drop-drop (at + headBytes form) p s ∙ ap (λ (j : ℕ). drop j s) q) in
       let x : valueOf (fieldAt form D at) D ≡ valueOf (fieldAt form s (p + at)) s = v ∙ w ∙ sym u in
       λ i. (tag-there at i, x i)
@@ -67,7 +70,9 @@ module _ (form : Form) (s : List ℕ) (p : ℕ) (inside : p ≤ length s) where
     where
       go : (stopAt form D at ≤ length D) ⊎ (length D < stopAt form D at)
           → (map (shown D) (fieldsFrom n form D (stopAt form D at)) ≡ map (shown s) (fieldsFrom n form s (p + stopAt form D at)))
-          × (p + lastStop (stopAt form D at) (fieldsFrom n form D (stopAt form D at)) ≡ lastStop (p + stopAt form D at) (fieldsFrom n form s (p + stopAt form D at)))
+          ×
+          (p + lastStop (stopAt form D at) (fieldsFrom n form D (stopAt form D at)) ≡ lastStop (p + stopAt form D at)
+          (fieldsFrom n form s (p + stopAt form D at)))
           → (map (shown D) (fieldsFrom (suc n) form D at) ≡ map (shown s) (fieldsFrom (suc n) form s (p + at)))
           × (p + lastStop at (fieldsFrom (suc n) form D at) ≡ lastStop (p + at) (fieldsFrom (suc n) form s (p + at)))
       go (inl l) more =

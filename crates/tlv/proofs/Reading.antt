@@ -104,14 +104,16 @@ module _ (form : Form) (area : List ℕ) (at : ℕ) where
     pub cut-here : v ≡ at → Cut at ≡ fieldIn form area at
     cut-here p = field-cut (same-place p)
 
-    pub field-here : (start tag : ℕ) → (v ≡ at → ⊥) → start ≡ at + headBytes form → tag ≡ tagAt form area at → Whole (record { tag = tag; start = start; stop = v }) ≡ fieldIn form area at
+    pub field-here : (start tag : ℕ) → (v ≡ at → ⊥) → start ≡ at + headBytes form → tag ≡ tagAt form area at
+        → Whole (record { tag = tag; start = start; stop = v }) ≡ fieldIn form area at
     field-here start tag g p q =
         let l = other-place g in
         let r : v ≡ stopAt form area at = e ∙ sym (behind-whole l) in
         (λ i. Whole (record { tag = q i; start = p i; stop = r i })) ∙ field-whole l
 
 -- a field that was read is the one that stands there, whole
-pub is-field : (form : Form) (area : List ℕ) (at : ℕ) (f : Field) → fieldIn form area at ≡ Whole f → (stopAt form area at ≤ length area) × (fieldAt form area at ≡ f)
+pub is-field : (form : Form) (area : List ℕ) (at : ℕ) (f : Field) → fieldIn form area at ≡ Whole f
+    → (stopAt form area at ≤ length area) × (fieldAt form area at ≡ f)
 is-field form area at f e = go (whole? form area at)
   where
     go : (stopAt form area at ≤ length area) ⊎ (length area < stopAt form area at) → (stopAt form area at ≤ length area) × (fieldAt form area at ≡ f)
@@ -172,7 +174,8 @@ pub is-only : (form : Form) (tag : ℕ) (area : List ℕ) (at : ℕ) (f : Field)
 unfolding onlyField
 is-only form tag area at f e = by-field (fieldIn form area at) refl e
   where
-    by-tests : (g : Field) (c d : Bool) → eqb (g .tag) tag ≡ c → eqb (g .stop) (length area) ≡ d → fieldIn form area at ≡ Whole g → (if c && d then Only g else Other) ≡ Only f → IsOnly form tag area at f
+    by-tests : (g : Field) (c d : Bool) → eqb (g .tag) tag ≡ c → eqb (g .stop) (length area) ≡ d → fieldIn form area at ≡ Whole g
+        → (if c && d then Only g else Other) ≡ Only f → IsOnly form tag area at f
     by-tests g true true p q r z =
         let y : g ≡ f = cc in
         record { read = r ∙ ap Whole y; type = ap (λ (x : Field). x .tag) (sym y) ∙ eqb-true _ _ p; stop = ap (λ (x : Field). x .stop) (sym y) ∙ eqb-true _ _ q }

@@ -87,7 +87,8 @@ only-reads-back form pre p f =
     let X = fieldBytes form (p .0) (p .1) in
     let r : fieldIn form (pre ++ X) (length pre) ≡ Whole (placed form (length pre) p) =
     ap (λ (x : List ℕ). fieldIn form (pre ++ x) (length pre)) (sym (append-nil X)) ∙ field-reads-back form pre [] p f .read in
-    let l : length (pre ++ X) ≡ length pre + (headBytes form + length (p .1)) = length-append pre X ∙ ap (λ (n : ℕ). length pre + n) (field-length form (p .0) (p .1)) in
+    let l : length (pre ++ X) ≡ length pre + (headBytes form + length (p .1)) = length-append pre X
+    ∙ ap (λ (n : ℕ). length pre + n) (field-length form (p .0) (p .1)) in
     sym (the-only form (p .0) (pre ++ X) (length pre) (placed form (length pre) p) (sym r) refl (omega arith))
 
 -- a number that was written as a value comes back
@@ -96,7 +97,8 @@ unfolding fieldBytes
 number-reads-back form tag w v h =
     let X = beBytes w v in
     let head = headOf form tag (length X) in
-    ap (λ (x : List ℕ). numberAt (head ++ x) (headBytes form) w) (sym (append-nil X)) ∙ number-back head [] (headBytes form) w v (head-length form tag (length X)) h
+    ap (λ (x : List ℕ). numberAt (head ++ x) (headBytes form) w) (sym (append-nil X))
+    ∙ number-back head [] (headBytes form) w v (head-length form tag (length X)) h
 
 pub only-is-all : OnlyIsAll
 only-is-all form tag area at f b e =
@@ -127,7 +129,9 @@ fields-back form (p ∷ ps) pre at e f =
     let l : stopAt form A at ≤ length A = stops-in form pre R (p .0) (p .1) at e t u in
     let st : stopAt form A at ≡ at + headBytes form + length (p .1) = stop-back form pre R (p .0) (p .1) at e t u in
     let pq : (pre ++ X) ++ R ≡ A = append-assoc pre X R in
-    let lx : length (pre ++ X) ≡ stopAt form A at = length-append pre X ∙ ap₂ (λ (x y : ℕ). x + y) e (field-length form (p .0) (p .1)) ∙ sym (st ∙ add-assoc at (headBytes form) (length (p .1))) in
+    let lx : length (pre ++ X) ≡ stopAt form A at = length-append pre X
+    ∙ ap₂ (λ (x y : ℕ). x + y) e (field-length form (p .0) (p .1))
+    ∙ sym (st ∙ add-assoc at (headBytes form) (length (p .1))) in
     let more = fields-back form ps (pre ++ X) (stopAt form A at) lx (f .1) in
     let m₀ : shownFrom form A (stopAt form A at) ≡ ps = ap (λ (x : List ℕ). shownFrom form x (stopAt form A at)) (sym pq) ∙ more .0 in
     let m₁ : reach form A (stopAt form A at) ≡ length A = ap (λ (x : List ℕ). reach form x (stopAt form A at)) (sym pq) ∙ more .1 ∙ ap length pq in (

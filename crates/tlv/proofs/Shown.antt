@@ -36,7 +36,8 @@ unfolding walk fieldsFrom
 walk-fields form area zero at = refl
 walk-fields form area (suc n) at = go (whole? form area at) (walk-fields form area n (stopAt form area at))
   where
-    go : (stopAt form area at ≤ length area) ⊎ (length area < stopAt form area at) → walk form area n (stopAt form area at) ≡ fieldsFrom n form area (stopAt form area at)
+    go : (stopAt form area at ≤ length area) ⊎ (length area < stopAt form area at)
+        → walk form area n (stopAt form area at) ≡ fieldsFrom n form area (stopAt form area at)
         → walk form area (suc n) at ≡ fieldsFrom (suc n) form area at
     go (inl l) more =
         ap (λ (x : NextField). stepOn x (walk form area n)) (sym (next-field form area at l))
@@ -49,7 +50,8 @@ walk-fields form area (suc n) at = go (whole? form area at) (walk-fields form ar
         stopped (no g) = ap (λ (x : NextField). stepOn x (walk form area n)) (sym (next-cut form area at (lt-of-not-le g) l))
 
 -- no more than there are
-fields-count : (form : Form) (area : List ℕ) (m n at : ℕ) → length (fieldsFrom m form area at) ≤ n → n ≤ m → fieldsFrom n form area at ≡ fieldsFrom m form area at
+fields-count : (form : Form) (area : List ℕ) (m n at : ℕ) → length (fieldsFrom m form area at) ≤ n → n ≤ m
+    → fieldsFrom n form area at ≡ fieldsFrom m form area at
 unfolding fieldsFrom
 fields-count form area zero zero at h k = refl
 fields-count form area zero (suc n) at h k = absurd (not-suc-le-zero k)
@@ -65,10 +67,13 @@ fields-count form area (suc m) (suc n) at h k = go (whole? form area at) (fields
         → fieldsFrom (suc n) form area at ≡ fieldsFrom (suc m) form area at
     go (inl l) more =
         let j : suc (length (fieldsFrom m form area (stopAt form area at))) ≤ suc n = rw (fields-first form area m at l) at h in
-        fields-first form area n at l ∙ ap (λ (x : List Field). fieldAt form area at ∷ x) (more (omega arith) (omega arith)) ∙ sym (fields-first form area m at l)
+        fields-first form area n at l
+        ∙ ap (λ (x : List Field). fieldAt form area at ∷ x) (more (omega arith) (omega arith))
+        ∙ sym (fields-first form area m at l)
     go (inr l) more = fields-none form area (suc n) at l ∙ sym (fields-none form area (suc m) at l)
 
-pub walk-shows-fields : (form : Form) (area : List ℕ) (at rounds : ℕ) → length (fieldsOf form area at) ≤ rounds → walk form area rounds at ≡ fieldsOf form area at
+pub walk-shows-fields : (form : Form) (area : List ℕ) (at rounds : ℕ) → length (fieldsOf form area at) ≤ rounds
+    → walk form area rounds at ≡ fieldsOf form area at
 unfolding fieldsOf
 walk-shows-fields form area at rounds h =
     elim (decLe rounds (length area)) [
@@ -85,7 +90,8 @@ unfolding fieldsFrom lastStop
 last-le form area zero at = omega arith
 last-le form area (suc n) at = go (whole? form area at) (last-le form area n (stopAt form area at))
   where
-    go : (stopAt form area at ≤ length area) ⊎ (length area < stopAt form area at) → stopAt form area at ≤ lastStop (stopAt form area at) (fieldsFrom n form area (stopAt form area at))
+    go : (stopAt form area at ≤ length area) ⊎ (length area < stopAt form area at)
+        → stopAt form area at ≤ lastStop (stopAt form area at) (fieldsFrom n form area (stopAt form area at))
         → at ≤ lastStop at (fieldsFrom (suc n) form area at)
     go (inl l) more = rw (fields-first form area n at l) (omega arith)
     go (inr l) more = rw (fields-none form area (suc n) at l) (omega arith)
@@ -190,7 +196,8 @@ module _ (form : Form) (area : List ℕ) (b : Bytes area) where
 -- ---- all together
 
 -- nothing is cut: up to the area's end
-pub fields-are-the-area : (form : Form) (area : List ℕ) (at : ℕ) → Bytes area → firstCut form area at ≡ Nothing → fieldsBytes form (shownFrom form area at) ≡ drop at area
+pub fields-are-the-area : (form : Form) (area : List ℕ) (at : ℕ) → Bytes area → firstCut form area at ≡ Nothing
+    → fieldsBytes form (shownFrom form area at) ≡ drop at area
 fields-are-the-area form area at b e =
     let l = uncut-reach form area at e in
     shown-are form area b at ∙ take-all (reach form area at - at) (drop at area) (omega (arith, length-drop at area))
@@ -211,7 +218,8 @@ pub cut-is-told : CutIsTold
 unfolding firstCut reach
 cut-is-told form area at rounds place e r = go (leb (length area) (reach form area at)) refl e
   where
-    go : (c : Bool) → leb (length area) (reach form area at) ≡ c → (if c then Nothing else At (reach form area at)) ≡ At place → Stopped form area at rounds place
+    go : (c : Bool) → leb (length area) (reach form area at) ≡ c → (if c then Nothing else At (reach form area at)) ≡ At place
+        → Stopped form area at rounds place
     go true p d = let z : _≡_ {A = ℕ} 0 1 = cc in absurd (let b : ⊥ = omega arith in b)
     go false p d =
         let q : reach form area at ≡ place = cc in

@@ -69,7 +69,8 @@ module _ (form : Form) (area : List ℕ) where
   fields-none zero at l = refl
   fields-none (suc n) at l = rw (not-whole form area at l)
 
-  pub fields-first : (n at : ℕ) → stopAt form area at ≤ length area → fieldsFrom (suc n) form area at ≡ fieldAt form area at ∷ fieldsFrom n form area (stopAt form area at)
+  pub fields-first : (n at : ℕ) → stopAt form area at ≤ length area
+      → fieldsFrom (suc n) form area at ≡ fieldAt form area at ∷ fieldsFrom n form area (stopAt form area at)
   unfolding fieldsFrom
   fields-first n at l = rw (whole form area at l)
 
@@ -125,11 +126,13 @@ module _ (form : Form) (area : List ℕ) where
   cut-reach : (at v from : ℕ) → v ≡ behind form area at → v ≤ at → at ≤ v → reach form area at ≡ reach form area from → at ≡ reach form area from
   cut-reach at v from e h k p = reach-here at (same-place form area at v e (omega arith)) ∙ p
 
-  pub cut-none : (at v from : ℕ) → v ≡ behind form area at → v ≤ at → at ≤ v → reach form area at ≡ reach form area from → length area ≤ at → Nothing ≡ firstCut form area from
+  pub cut-none : (at v from : ℕ) → v ≡ behind form area at → v ≤ at → at ≤ v → reach form area at ≡ reach form area from → length area ≤ at
+      → Nothing ≡ firstCut form area from
   unfolding firstCut
   cut-none at v from e h k p l = rw (← cut-reach at v from e h k p, le-leb _ _ l)
 
-  pub cut-some : (at v from : ℕ) → v ≡ behind form area at → v ≤ at → at ≤ v → reach form area at ≡ reach form area from → at < length area → At at ≡ firstCut form area from
+  pub cut-some : (at v from : ℕ) → v ≡ behind form area at → v ≤ at → at ≤ v → reach form area at ≡ reach form area from → at < length area
+      → At at ≡ firstCut form area from
   unfolding firstCut
   cut-some at v from e h k p l = rw (← cut-reach at v from e h k p, lt-leb _ _ l)
 

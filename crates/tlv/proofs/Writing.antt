@@ -66,20 +66,24 @@ module _ (s bytes : List ℕ) (at : ℕ) where
 
 pub head-length : (form : Form) (tag size : ℕ) → length (headOf form tag size) ≡ headBytes form
 unfolding headOf
-head-length form tag size = length-append (beBytes (tagBytes form) tag) (beBytes (lengthBytes form) size) ∙ ap₂ (λ (a b : ℕ). a + b) (be-length (tagBytes form) tag) (be-length (lengthBytes form) size)
+head-length form tag size =
+    length-append (beBytes (tagBytes form) tag) (beBytes (lengthBytes form) size)
+    ∙ ap₂ (λ (a b : ℕ). a + b) (be-length (tagBytes form) tag) (be-length (lengthBytes form) size)
 
 pub field-length : (form : Form) (tag : ℕ) (value : List ℕ) → length (fieldBytes form tag value) ≡ headBytes form + length value
 unfolding fieldBytes
 field-length form tag value = length-append (headOf form tag (length value)) value ∙ ap (λ (n : ℕ). n + length value) (head-length form tag (length value))
 
 -- a form without a type stores none, whatever it is
-tag-sets : (form : Form) (s : List ℕ) (at tag : ℕ) → at + tagBytes form ≤ length s → tag < 256 → bePut s at (tagBytes form) tag ≡ sets s at (beBytes (tagBytes form) tag)
+tag-sets : (form : Form) (s : List ℕ) (at tag : ℕ) → at + tagBytes form ≤ length s → tag < 256
+    → bePut s at (tagBytes form) tag ≡ sets s at (beBytes (tagBytes form) tag)
 tag-sets Lv s at tag l h = put-empty s at tag
 tag-sets Tlv s at tag l h = put-sets s at 1 tag (omega arith) l (omega arith)
 tag-sets LongTlv s at tag l h = put-sets s at 1 tag (omega arith) l (omega arith)
 
 -- type, length and value, one behind the other
-pub field-stored : (form : Form) (s b₁ b₂ b₃ value : List ℕ) (at tag t w : ℕ) → t ≡ tagBytes form → w ≡ lengthBytes form → tag < 256 → length value < 256 ^ lengthBytes form
+pub field-stored : (form : Form) (s b₁ b₂ b₃ value : List ℕ) (at tag t w : ℕ) → t ≡ tagBytes form → w ≡ lengthBytes form → tag < 256
+    → length value < 256 ^ lengthBytes form
     → at + (headBytes form + length value) ≤ length s → b₁ ≡ bePut s at t tag → b₂ ≡ bePut b₁ (at + t) w (length value) → b₃ ≡ sets b₂ (at + t + w) value → b₃ ≡ sets s at (fieldBytes form tag value)
 unfolding fieldBytes headOf
 field-stored form s b₁ b₂ b₃ value at tag t w et ew h k room e₁ e₂ e₃ =
@@ -105,7 +109,8 @@ module _ (form : Form) (s value : List ℕ) (at tag : ℕ) where
   no-room head p e = rw (← p, e, and-false)
 
   -- for callers: a field that fits and lies in the buffer
-  pub put-field-sets : length value < 256 ^ lengthBytes form → at + (headBytes form + length value) ≤ length s → fieldPut form s at tag value ≡ sets s at (fieldBytes form tag value)
+  pub put-field-sets : length value < 256 ^ lengthBytes form → at + (headBytes form + length value) ≤ length s
+      → fieldPut form s at tag value ≡ sets s at (fieldBytes form tag value)
   unfolding fieldPut
   put-field-sets h l = rw (lt-fits _ _ h, le-leb _ _ l)
 
@@ -119,7 +124,8 @@ module _ (form : Form) (s value : List ℕ) (at tag : ℕ) where
 
 -- ---- chains: behind what stands written so far, `pre`, with the rest as it was
 
-pub then-field : (form : Form) (pre l value : List ℕ) (at n tag : ℕ) {b b′ : List ℕ} → at + length pre ≡ n → length value < 256 ^ lengthBytes form → n + (headBytes form + length value) ≤ length l
+pub then-field : (form : Form) (pre l value : List ℕ) (at n tag : ℕ) {b b′ : List ℕ} → at + length pre ≡ n → length value < 256 ^ lengthBytes form
+    → n + (headBytes form + length value) ≤ length l
     → b ≡ sets l at pre → b′ ≡ fieldPut form b n tag value → b′ ≡ sets l at (pre ++ fieldBytes form tag value)
 then-field form pre l value at n tag {b} {b′} e h k p q =
     let X = fieldBytes form tag value in
@@ -129,7 +135,8 @@ then-field form pre l value at n tag {b} {b′} e h k p q =
     ∙ ap₂ (λ (x : List ℕ) (j : ℕ). sets x j X) p (sym e)
     ∙ sym (sets-append pre X l at)
 
-pub then-bytes : (pre l bytes : List ℕ) (at n : ℕ) {b b′ : List ℕ} → at + length pre ≡ n → n + length bytes ≤ length l → b ≡ sets l at pre → b′ ≡ bytesPut b n bytes → b′ ≡ sets l at (pre ++ bytes)
+pub then-bytes : (pre l bytes : List ℕ) (at n : ℕ) {b b′ : List ℕ} → at + length pre ≡ n → n + length bytes ≤ length l → b ≡ sets l at pre
+    → b′ ≡ bytesPut b n bytes → b′ ≡ sets l at (pre ++ bytes)
 then-bytes pre l bytes at n {b} {b′} e k p q =
     let m : length b ≡ length l = ap length p ∙ length-sets l at pre in
     q

@@ -69,7 +69,16 @@ from-fields-requires : tie.Need-from-fields-requires
 from-fields-requires c κs = search needs
 
 returns : tie.Need-returns
-returns c = header-is (c .before .before .before .before .before .before .before .before .before .before .before .before .before .before .before .before .before .before .before .before .before .args .shape .now) (c .before .before .before .before .before .before .before .before .before .before .before .before .before .before .before .before .before .before .before .before .before .args .ids .now) _ _ _ _ _ _ _ _ (c .before .before .before .before .before .before .before .before .before .before .before .before .before .from-bit .ensures) (c .before .before .before .before .before .before .before .before .before .before .before .from-bit2 .ensures) (c .before .before .before .before .before .before .before .before .before .from-bit3 .ensures) (c .before .before .before .before .before .before .before .from-bit4 .ensures) (c .before .before .before .before .before .from-bit5 .ensures) (c .before .before .before .from-bit6 .ensures) (c .before .from-bit7 .ensures) _ (c .from-fields .ensures)
+returns c =
+    let a = c .before .before .before .before .before .before .before .before .before .before .before .before .before .before .before .before .before .before .before .before .before .args in
+    let from-bit = c .before .before .before .before .before .before .before .before .before .before .before .before .before .from-bit in
+    let from-bit2 = c .before .before .before .before .before .before .before .before .before .before .before .from-bit2 in
+    let from-bit3 = c .before .before .before .before .before .before .before .before .before .from-bit3 in
+    let from-bit4 = c .before .before .before .before .before .before .before .from-bit4 in
+    let from-bit5 = c .before .before .before .before .before .from-bit5 in
+    let from-bit6 = c .before .before .before .from-bit6 in
+    header-is (a .shape .now) (a .ids .now) _ _ _ _ _ _ _ _ (from-bit .ensures) (from-bit2 .ensures) (from-bit3 .ensures)
+    (from-bit4 .ensures) (from-bit5 .ensures) (from-bit6 .ensures) (c .before .from-bit7 .ensures) _ (c .from-fields .ensures)
 
 pub header-from-spec : {M : Type 1} → statement M
 header-from-spec =

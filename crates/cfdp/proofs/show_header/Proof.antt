@@ -60,7 +60,18 @@ cast-t32 : tie.Need-cast-t32
 cast-t32 c = search needs
 
 returns : tie.Need-returns
-returns c = ap (λ (ns : List ℕ). 0 ∷ ns) (header-numbers (c .before .before .before .before .before .before .before .before .before .before .before .before .args .header) _ _ _ _ _ _ _ _ (c .before .before .before .before .before .before .before .before .before .bit .ensures .0) (c .before .before .before .before .before .before .before .before .bit2 .ensures .0) (c .before .before .before .before .before .before .before .bit3 .ensures .0) (c .before .before .before .before .before .before .bit4 .ensures .0) (c .before .before .before .before .before .bit5 .ensures .0) (c .before .before .before .before .bit6 .ensures .0) (c .before .before .before .bit7 .ensures .0))
+returns c =
+    let a = c .before .before .before .before .before .before .before .before .before .before .before .before .args in
+    let bit = c .before .before .before .before .before .before .before .before .before .bit in
+    let bit2 = c .before .before .before .before .before .before .before .before .bit2 in
+    let bit3 = c .before .before .before .before .before .before .before .bit3 in
+    let bit4 = c .before .before .before .before .before .before .bit4 in
+    let bit5 = c .before .before .before .before .before .bit5 in
+    let bit6 = c .before .before .before .before .bit6 in
+    let bit7 = c .before .before .before .bit7 in
+    ap (λ (ns : List ℕ). 0 ∷ ns)
+    (header-numbers (a .header) _ _ _ _ _ _ _ _ (bit .ensures .0) (bit2 .ensures .0) (bit3 .ensures .0) (bit4 .ensures .0) (bit5 .ensures .0)
+    (bit6 .ensures .0) (bit7 .ensures .0))
 
 pub show-header-spec : {M : Type 1} → statement M
 show-header-spec =

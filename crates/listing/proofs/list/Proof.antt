@@ -26,7 +26,9 @@ print-nak-requires c κs = search needs
 
 returns : tie.Need-returns
 returns c =
-    sym (told-either isAccepted false _ (λ _ _. refl) (λ _. refl)) ∙ ap isAccepted (ap nakAnswer (sym (c .before .before .read .given .1)) ∙ c .before .before .before .before .from-bytes .ensures)
+    let read = c .before .before .read in
+    let from-bytes = c .before .before .before .before .from-bytes in
+    sym (told-either isAccepted false _ (λ _ _. refl) (λ _. refl)) ∙ ap isAccepted (ap nakAnswer (sym (read .given .1)) ∙ from-bytes .ensures)
 
 returns-2 : tie.Need-returns-2
 returns-2 c = ap isAccepted (ap nakAnswer (sym (c .before .before .read2 .given .1)) ∙ c .before .before .before .before .from-bytes .ensures)

@@ -40,23 +40,26 @@ returns-2 c = search needs
 
 add-at : tie.Need-add-at Inv-loop μ-loop
 add-at c =
+    let receive = c .before .before .before .before .before .before .before .receive in
     let l = c .before .before .before .before .before .before .before .before .before .before .before .loop in
     let f = c .before .before .before .before .before .before .before .before .before .before .before .before .before .args .fragment .now in
-    let i = stays-inside (c .before .before .before .before .before .before .before .receive .result) _ _ f (l .at) (l .inv) (c .before .before .before .before .before .before .before .receive .ensures) in
+    let i = stays-inside (receive .result) _ _ f (l .at) (l .inv) (receive .ensures) in
     omega (arith, i)
 
 loop-less : tie.Need-loop-less Inv-loop μ-loop
 loop-less c =
+    let receive = c .before .before .before .before .before .before .before .receive in
     let l = c .before .before .before .before .before .before .before .before .before .before .before .loop in
     let f = c .before .before .before .before .before .before .before .before .before .before .before .before .before .args .fragment .now in
-    let i = stays-inside (c .before .before .before .before .before .before .before .receive .result) _ _ f (l .at) (l .inv) (c .before .before .before .before .before .before .before .receive .ensures) in
+    let i = stays-inside (receive .result) _ _ f (l .at) (l .inv) (receive .ensures) in
     omega (arith, i, c .before .if2 .left)
 
 loop-again : tie.Need-loop-again Inv-loop μ-loop
 loop-again c =
+    let receive = c .before .before .before .before .before .before .before .receive in
     let l = c .before .before .before .before .before .before .before .before .before .before .before .loop in
     let f = c .before .before .before .before .before .before .before .before .before .before .before .before .before .args .fragment .now in
-    stays-inside (c .before .before .before .before .before .before .before .receive .result) _ _ f (l .at) (l .inv) (c .before .before .before .before .before .before .before .receive .ensures)
+    stays-inside (receive .result) _ _ f (l .at) (l .inv) (receive .ensures)
 
 returns-3 : tie.Need-returns-3 Inv-loop μ-loop
 returns-3 c = search needs

@@ -65,15 +65,17 @@ enum-known-said-3 c = search needs
 
 add-shorts : tie.Need-add-shorts Inv-loop μ-loop
 add-shorts c =
+    let pre = c .before .before .before .before .before .before .before .before .pre in
     let l = c .before .before .before .before .before .loop in
     let a = c .before .before .before .before .before .before .before .before .args in
-    omega (arith, l .inv .3, few-shorts (stateOf (a .window .now) (a .filled)) (a .fragment .now) (c .before .before .before .before .before .before .before .before .pre))
+    omega (arith, l .inv .3, few-shorts (stateOf (a .window .now) (a .filled)) (a .fragment .now) pre)
 
 sub-wanted : tie.Need-sub-wanted Inv-loop μ-loop
 sub-wanted c =
+    let status-of = c .before .before .before .status-of in
     let l = c .before .before .before .before .before .loop in
     let g = c .before .said3 .given in
-    let v = waits-for (l .window) (l .at) (g .0 .0) (g .0 .1 .0) (l .inv .1) (ap statusAnswer (sym (g .1)) ∙ c .before .before .before .status-of .ensures) in
+    let v = waits-for (l .window) (l .at) (g .0 .0) (g .0 .1 .0) (l .inv .1) (ap statusAnswer (sym (g .1)) ∙ status-of .ensures) in
     omega arith
 
 sub-left : tie.Need-sub-left Inv-loop μ-loop
@@ -81,9 +83,10 @@ sub-left c = search needs
 
 add-there : tie.Need-add-there Inv-loop μ-loop
 add-there c =
+    let status-of = c .before .before .before .before .status-of in
     let l = c .before .before .before .before .before .before .loop in
     let g = c .before .before .said3 .given in
-    let v = waits-for (l .window) (l .at) (g .0 .0) (g .0 .1 .0) (l .inv .1) (ap statusAnswer (sym (g .1)) ∙ c .before .before .before .before .status-of .ensures) in
+    let v = waits-for (l .window) (l .at) (g .0 .0) (g .0 .1 .0) (l .inv .1) (ap statusAnswer (sym (g .1)) ∙ status-of .ensures) in
     omega arith
 
 sub-store : tie.Need-sub-store Inv-loop μ-loop
@@ -97,9 +100,10 @@ part-store-end c = search needs
 
 store-requires : tie.Need-store-requires Inv-loop μ-loop
 store-requires c κs =
+    let status-of = c .before .before .before .before .before .before .status-of in
     let l = c .before .before .before .before .before .before .before .before .loop in
     let g = c .before .before .before .before .said3 .given in
-    let v = waits-for (l .window) (l .at) (g .0 .0) (g .0 .1 .0) (l .inv .1) (ap statusAnswer (sym (g .1)) ∙ c .before .before .before .before .before .before .status-of .ensures) in
+    let v = waits-for (l .window) (l .at) (g .0 .0) (g .0 .1 .0) (l .inv .1) (ap statusAnswer (sym (g .1)) ∙ status-of .ensures) in
     simp (length-take, length-drop) (omega arith)
 
 ended-requires-3 : tie.Need-ended-requires-3 Inv-loop μ-loop
@@ -110,12 +114,14 @@ same-length-3 c = ap length (c .before .before .before .store .ensures) ∙ simp
 
 returns-3 : tie.Need-returns-3 Inv-loop μ-loop
 returns-3 c =
+    let status-of = c .before .before .before .before .before .before .before .before .before .before .status-of in
+    let store = c .before .before .before .store in
     let l = c .before .before .before .before .before .before .before .before .before .before .before .before .loop in
     let g = c .before .before .before .before .before .before .before .before .said3 .given in
-    let s = ap statusAnswer (sym (g .1)) ∙ c .before .before .before .before .before .before .before .before .before .before .status-of .ensures in
+    let s = ap statusAnswer (sym (g .1)) ∙ status-of .ensures in
     let v = waits-for (l .window) (l .at) (g .0 .0) (g .0 .1 .0) (l .inv .1) s in
     let fewer = c .before .before .before .before .before .before .if1 .taken in
-    at-end _ _ _ _ _ (c .ended3 .ensures) (gives-more _ _ _ _ _ (l .inv .2) (l .inv .1) (l .inv .0) _ _ s _ fewer (c .before .before .before .store .ensures))
+    at-end _ _ _ _ _ (c .ended3 .ensures) (gives-more _ _ _ _ _ (l .inv .2) (l .inv .1) (l .inv .0) _ _ s _ fewer (store .ensures))
     (all-more _ _ _ (l .taken) _ _ (l .inv .3) _ _ s (v .below) fewer)
 
 add-next : tie.Need-add-next Inv-loop μ-loop
@@ -132,18 +138,22 @@ part-store-end-2 c = search needs
 
 store-requires-2 : tie.Need-store-requires-2 Inv-loop μ-loop
 store-requires-2 c κs =
+    let status-of = c .before .before .before .before .before .before .status-of in
     let l = c .before .before .before .before .before .before .before .before .loop in
     let g = c .before .before .before .before .said3 .given in
-    let v = waits-for (l .window) (l .at) (g .0 .0) (g .0 .1 .0) (l .inv .1) (ap statusAnswer (sym (g .1)) ∙ c .before .before .before .before .before .before .status-of .ensures) in
+    let v = waits-for (l .window) (l .at) (g .0 .0) (g .0 .1 .0) (l .inv .1) (ap statusAnswer (sym (g .1)) ∙ status-of .ensures) in
     simp (length-take, length-drop) (omega arith)
 
 loop-less : tie.Need-loop-less Inv-loop μ-loop
 loop-less c =
+    let status-of = c .before .before .before .before .before .before .before .before .before .status-of in
+    let if1 = c .before .before .before .before .before .if1 in
+    let store2 = c .before .before .store2 in
     let l = c .before .before .before .before .before .before .before .before .before .before .before .loop in
     let g = c .before .before .before .before .before .before .before .said3 .given in
-    let s = ap statusAnswer (sym (g .1)) ∙ c .before .before .before .before .before .before .before .before .before .status-of .ensures in
+    let s = ap statusAnswer (sym (g .1)) ∙ status-of .ensures in
     let v = waits-for (l .window) (l .at) (g .0 .0) (g .0 .1 .0) (l .inv .1) s in
-    turn-less _ _ _ (l .taken) _ _ (l .inv .3) _ _ s _ _ refl (v .below) (c .before .before .before .before .before .if1 .left) (c .before .before .store2 .ensures)
+    turn-less _ _ _ (l .taken) _ _ (l .inv .3) _ _ s _ _ refl (v .below) (if1 .left) (store2 .ensures)
 
 loop-again : tie.Need-loop-again Inv-loop μ-loop
 loop-again c =

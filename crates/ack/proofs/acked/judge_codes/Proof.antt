@@ -23,7 +23,9 @@ returns : tie.Need-returns
 returns c = refused-condition _ _ _ (ap judgedAnswer (sym (c .before .judged .given .1)) ∙ c .before .before .before .judge-condition .ensures)
 
 returns-2 : tie.Need-returns-2
-returns-2 c = c .judge-acked .ensures ∙ acked-decides _ _ (ap judgedAnswer (sym (c .before .enum-told .given .1)) ∙ c .before .before .before .judge-condition .ensures)
+returns-2 c =
+    let judge-condition = c .before .before .before .judge-condition in
+    c .judge-acked .ensures ∙ acked-decides _ _ (ap judgedAnswer (sym (c .before .enum-told .given .1)) ∙ judge-condition .ensures)
 
 pub judge-codes-spec : {M : Type 1} → statement M
 judge-codes-spec =

@@ -32,10 +32,16 @@ cast-t11 : tie.Need-cast-t11
 cast-t11 c = search needs
 
 returns : tie.Need-returns
-returns c = bad-codes (c .before .before .before .before .before .args .ack) _ (ap judgedAnswer (sym (c .before .judged .given .1)) ∙ c .before .before .before .judge-codes .ensures)
+returns c =
+    let a = c .before .before .before .before .before .args in
+    let judge-codes = c .before .before .before .judge-codes in
+    bad-codes (a .ack) _ (ap judgedAnswer (sym (c .before .judged .given .1)) ∙ judge-codes .ensures)
 
 returns-2 : tie.Need-returns-2
-returns-2 c = good-codes (c .before .before .before .before .before .args .ack) _ (ap judgedAnswer (sym (c .before .enum-told .given .1)) ∙ c .before .before .before .judge-codes .ensures) (c .bit .ensures .0)
+returns-2 c =
+    let a = c .before .before .before .before .before .args in
+    let judge-codes = c .before .before .before .judge-codes in
+    good-codes (a .ack) _ (ap judgedAnswer (sym (c .before .enum-told .given .1)) ∙ judge-codes .ensures) (c .bit .ensures .0)
 
 pub data-length-spec : {M : Type 1} → statement M
 data-length-spec =

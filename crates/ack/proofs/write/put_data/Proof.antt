@@ -15,7 +15,10 @@ subtype-of-requires : tie.Need-subtype-of-requires
 subtype-of-requires c κs = search needs
 
 add-directive : tie.Need-add-directive
-add-directive c = omega (arith, are-bytes (c .before .before .before .args .ack) (c .before .before .before .pre .1) .directive, c .subtype-of .ensures .0)
+add-directive c =
+    let a = c .before .before .before .args in
+    let pre = c .before .before .before .pre in
+    omega (arith, are-bytes (a .ack) (pre .1) .directive, c .subtype-of .ensures .0)
 
 mul-state : tie.Need-mul-state
 mul-state c = omega (arith, are-bytes (c .before .before .before .before .args .ack) (c .before .before .before .before .pre .1) .state)
@@ -24,7 +27,10 @@ bits-requires : tie.Need-bits-requires
 bits-requires c κs = search needs
 
 add-state : tie.Need-add-state
-add-state c = omega (arith, are-bytes (c .before .before .before .before .before .args .ack) (c .before .before .before .before .before .pre .1) .state, c .bits .ensures .0)
+add-state c =
+    let a = c .before .before .before .before .before .args in
+    let pre = c .before .before .before .before .before .pre in
+    omega (arith, are-bytes (a .ack) (pre .1) .state, c .bits .ensures .0)
 
 slice-write-buf : tie.Need-slice-write-buf
 slice-write-buf c = search needs
@@ -45,7 +51,10 @@ same-length : tie.Need-same-length
 same-length c = search needs
 
 returns : tie.Need-returns
-returns c = data-stored (c .before .before .before .before .before .args .ack) _ _ _ _ (c .before .before .subtype-of .ensures .0) (c .bits .ensures .0)
+returns c =
+    let a = c .before .before .before .before .before .args in
+    let subtype-of = c .before .before .subtype-of in
+    data-stored (a .ack) _ _ _ _ (subtype-of .ensures .0) (c .bits .ensures .0)
 
 pub put-data-spec : {M : Type 1} → statement M
 put-data-spec =

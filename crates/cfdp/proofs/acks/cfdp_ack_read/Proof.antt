@@ -39,10 +39,18 @@ show-header-requires : tie.Need-show-header-requires
 show-header-requires c κs = search needs
 
 returns : tie.Need-returns
-returns c = refused-shown ackNumbers _ _ _ (ap ackAnswer (sym (c .before .before .before .read .given .1)) ∙ c .before .before .before .before .before .from-bytes .ensures) (c .show-refusal .ensures)
+returns c =
+    let read = c .before .before .before .read in
+    let from-bytes = c .before .before .before .before .before .from-bytes in
+    refused-shown ackNumbers _ _ _ (ap ackAnswer (sym (read .given .1)) ∙ from-bytes .ensures) (c .show-refusal .ensures)
 
 returns-2 : tie.Need-returns-2
-returns-2 c = ack-shown _ _ _ _ _ (ap ackAnswer (sym (c .before .before .before .before .before .before .before .before .read2 .given .1)) ∙ c .before .before .before .before .before .before .before .before .before .before .from-bytes .ensures) (c .before .before .before .bits .ensures .0) (c .before .before .data-end .ensures) (c .show-header .ensures)
+returns-2 c =
+    let read2 = c .before .before .before .before .before .before .before .before .read2 in
+    let from-bytes = c .before .before .before .before .before .before .before .before .before .before .from-bytes in
+    let bits = c .before .before .before .bits in
+    let data-end = c .before .before .data-end in
+    ack-shown _ _ _ _ _ (ap ackAnswer (sym (read2 .given .1)) ∙ from-bytes .ensures) (bits .ensures .0) (data-end .ensures) (c .show-header .ensures)
 
 pub cfdp-ack-read-spec : {M : Type 1} → statement M
 cfdp-ack-read-spec =

@@ -32,10 +32,20 @@ show-verdict-requires : tie.Need-show-verdict-requires
 show-verdict-requires c κs = search needs
 
 returns : tie.Need-returns
-returns c = none-compared _ (c .before .before .before .before .joined .given .0 .0) _ _ _ _ (ap headerAnswer (sym (c .before .before .before .before .joined .given .1)) ∙ c .before .before .before .before .before .before .header-from .ensures) (c .before .before .reader-first .ensures) (c .show-refusal .ensures)
+returns c =
+    let joined = c .before .before .before .before .joined in
+    let header-from = c .before .before .before .before .before .before .header-from in
+    let reader-first = c .before .before .reader-first in
+    none-compared _ (joined .given .0 .0) _ _ _ _ (ap headerAnswer (sym (joined .given .1)) ∙ header-from .ensures) (reader-first .ensures)
+    (c .show-refusal .ensures)
 
 returns-2 : tie.Need-returns-2
-returns-2 c = given-compared (λ (h : PduHeader). Normal) _ _ _ _ _ _ _ (ap headerAnswer (sym (c .before .before .before .before .joined2 .given .1)) ∙ c .before .before .before .before .before .before .header-from .ensures) (c .show-verdict .ensures ∙ ap (shown verdictNumber) (c .before .before .compare-normal-file-size .ensures))
+returns-2 c =
+    let joined2 = c .before .before .before .before .joined2 in
+    let header-from = c .before .before .before .before .before .before .header-from in
+    let compare-normal-file-size = c .before .before .compare-normal-file-size in
+    given-compared (λ (h : PduHeader). Normal) _ _ _ _ _ _ _ (ap headerAnswer (sym (joined2 .given .1)) ∙ header-from .ensures)
+    (c .show-verdict .ensures ∙ ap (shown verdictNumber) (compare-normal-file-size .ensures))
 
 pub cfdp-nak-compare-normal-spec : {M : Type 1} → statement M
 cfdp-nak-compare-normal-spec =

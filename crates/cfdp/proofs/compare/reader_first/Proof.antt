@@ -21,10 +21,18 @@ enum-told : tie.Need-enum-told
 enum-told c = search needs
 
 returns : tie.Need-returns
-returns c = sym (told-on {A = Nak} {B = Bool} _ (λ _. told (paper (c .before .before .before .before .before .args .refusal)))) ∙ ap (λ (o : Answer Nak). andThen {B = Bool} o (λ _. told (paper (c .before .before .before .before .before .args .refusal)))) (ap nakAnswer (sym (c .before .read .given .1)) ∙ c .before .before .before .from-bytes .ensures)
+returns c =
+    let a = c .before .before .before .before .before .args in
+    let from-bytes = c .before .before .before .from-bytes in
+    sym (told-on {A = Nak} {B = Bool} _ (λ _. told (paper (a .refusal))))
+    ∙ ap (λ (o : Answer Nak). andThen {B = Bool} o (λ _. told (paper (a .refusal))))
+    (ap nakAnswer (sym (c .before .read .given .1)) ∙ from-bytes .ensures)
 
 returns-2 : tie.Need-returns-2
-returns-2 c = ap (λ (o : Answer Nak). andThen {B = Bool} o (λ _. told (paper (c .before .before .before .before .args .refusal)))) (ap nakAnswer (sym (c .enum-told .given .1)) ∙ c .before .before .from-bytes .ensures)
+returns-2 c =
+    let a = c .before .before .before .before .args in
+    let from-bytes = c .before .before .from-bytes in
+    ap (λ (o : Answer Nak). andThen {B = Bool} o (λ _. told (paper (a .refusal)))) (ap nakAnswer (sym (c .enum-told .given .1)) ∙ from-bytes .ensures)
 
 pub reader-first-spec : {M : Type 1} → statement M
 reader-first-spec =

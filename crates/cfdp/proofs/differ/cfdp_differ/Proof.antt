@@ -27,13 +27,21 @@ same-length : tie.Need-same-length
 same-length c = search needs
 
 returns : tie.Need-returns
-returns c = (refused-shown differNumbers _ _ _ (ap differAnswer (sym (c .before .before .before .result .given .1)) ∙ c .before .before .before .before .before .before .before .differ .ensures .0) (c .show-refusal .ensures), c .before .before .before .before .before .before .before .differ .ensures .1)
+returns c =
+    let result = c .before .before .before .result in
+    let differ = c .before .before .before .before .before .before .before .differ in
+    (refused-shown differNumbers _ _ _ (ap differAnswer (sym (result .given .1)) ∙ differ .ensures .0) (c .show-refusal .ensures), differ .ensures .1)
 
 same-length-2 : tie.Need-same-length-2
 same-length-2 c = search needs
 
 returns-2 : tie.Need-returns-2
-returns-2 c = (accepted-shown differNumbers _ _ _ (ap differAnswer (sym (c .before .before .before .result2 .given .1)) ∙ c .before .before .before .before .before .before .before .differ .ensures .0) (c .show-differences .ensures), c .before .before .before .before .before .before .before .differ .ensures .1)
+returns-2 c =
+    let result2 = c .before .before .before .result2 in
+    let differ = c .before .before .before .before .before .before .before .differ in (
+      accepted-shown differNumbers _ _ _ (ap differAnswer (sym (result2 .given .1)) ∙ differ .ensures .0) (c .show-differences .ensures),
+      differ .ensures .1,
+    )
 
 pub cfdp-differ-spec : {M : Type 1} → statement M
 cfdp-differ-spec =

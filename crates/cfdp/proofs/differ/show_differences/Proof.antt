@@ -18,7 +18,11 @@ element-write-answer : tie.Need-element-write-answer
 element-write-answer c = search needs
 
 returns : tie.Need-returns
-returns c = differ-numbers (c .before .before .before .before .args .found) _ _ _ (c .before .before .before .bit .ensures) (c .before .before .bit2 .ensures) (c .show-few .ensures)
+returns c =
+    let a = c .before .before .before .before .args in
+    let bit = c .before .before .before .bit in
+    let bit2 = c .before .before .bit2 in
+    differ-numbers (a .found) _ _ _ (bit .ensures) (bit2 .ensures) (c .show-few .ensures)
 
 pub show-differences-spec : {M : Type 1} → statement M
 show-differences-spec =

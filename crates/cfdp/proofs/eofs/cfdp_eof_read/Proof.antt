@@ -24,10 +24,16 @@ show-eof-requires : tie.Need-show-eof-requires
 show-eof-requires c κs = search needs
 
 returns : tie.Need-returns
-returns c = refused-shown eofNumbers _ _ _ (ap eofAnswer (sym (c .before .before .before .read .given .1)) ∙ c .before .before .before .before .before .from-bytes .ensures) (c .show-refusal .ensures)
+returns c =
+    let read = c .before .before .before .read in
+    let from-bytes = c .before .before .before .before .before .from-bytes in
+    refused-shown eofNumbers _ _ _ (ap eofAnswer (sym (read .given .1)) ∙ from-bytes .ensures) (c .show-refusal .ensures)
 
 returns-2 : tie.Need-returns-2
-returns-2 c = accepted-shown eofNumbers _ _ _ (ap eofAnswer (sym (c .before .before .before .read2 .given .1)) ∙ c .before .before .before .before .before .from-bytes .ensures) (c .show-eof .ensures)
+returns-2 c =
+    let read2 = c .before .before .before .read2 in
+    let from-bytes = c .before .before .before .before .before .from-bytes in
+    accepted-shown eofNumbers _ _ _ (ap eofAnswer (sym (read2 .given .1)) ∙ from-bytes .ensures) (c .show-eof .ensures)
 
 pub cfdp-eof-read-spec : {M : Type 1} → statement M
 cfdp-eof-read-spec =

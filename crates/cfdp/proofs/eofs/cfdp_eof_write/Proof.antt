@@ -34,13 +34,36 @@ show-written-requires : tie.Need-show-written-requires
 show-written-requires c κs = search needs
 
 returns : tie.Need-returns
-returns c = (none-shown writtenNumbers _ _ _ _ (ap headerAnswer (sym (c .before .before .before .joined .given .1)) ∙ c .before .before .before .before .before .header-from .ensures) (c .show-refusal .ensures), none-left _ _ _ _ (ap headerAnswer (sym (c .before .before .before .joined .given .1)) ∙ c .before .before .before .before .before .header-from .ensures))
+returns c =
+    let joined = c .before .before .before .joined in
+    let header-from = c .before .before .before .before .before .header-from in (
+      none-shown writtenNumbers _ _ _ _ (ap headerAnswer (sym (joined .given .1)) ∙ header-from .ensures) (c .show-refusal .ensures),
+      none-left _ _ _ _ (ap headerAnswer (sym (joined .given .1)) ∙ header-from .ensures),
+    )
 
 same-length : tie.Need-same-length
 same-length c = search needs
 
 returns-2 : tie.Need-returns-2
-returns-2 c = (given-shown writtenNumbers _ _ _ _ (ap headerAnswer (sym (c .before .before .before .before .before .before .before .before .joined2 .given .1)) ∙ c .before .before .before .before .before .before .before .before .before .before .header-from .ensures) (c .show-written .ensures ∙ ap (shown writtenNumbers) (c .before .before .before .before .write-to-slice .ensures .0 ∙ ap (λ (x : FaultLocation). writingEof (eofFrom (c .before .before .before .before .before .before .before .before .joined2 .given .0 .0) (c .before .before .before .before .before .before .before .before .before .before .before .before .args .condition) (c .before .before .before .before .before .before .before .before .before .before .before .before .args .file-checksum) (c .before .before .before .before .before .before .before .before .before .before .before .before .args .file-size) x) (length (c .before .before .before .before .before .before .before .before .before .before .before .before .args .buf .now))) (c .before .before .before .before .before .before .fault-from .ensures))), given-left _ _ _ _ _ (ap headerAnswer (sym (c .before .before .before .before .before .before .before .before .joined2 .given .1)) ∙ c .before .before .before .before .before .before .before .before .before .before .header-from .ensures) (c .before .before .before .before .write-to-slice .ensures .1 ∙ ap (λ (x : FaultLocation). eofMemory (eofFrom (c .before .before .before .before .before .before .before .before .joined2 .given .0 .0) (c .before .before .before .before .before .before .before .before .before .before .before .before .args .condition) (c .before .before .before .before .before .before .before .before .before .before .before .before .args .file-checksum) (c .before .before .before .before .before .before .before .before .before .before .before .before .args .file-size) x) (c .before .before .before .before .before .before .before .before .before .before .before .before .args .buf .now)) (c .before .before .before .before .before .before .fault-from .ensures)))
+returns-2 c =
+    let joined2 = c .before .before .before .before .before .before .before .before .joined2 in
+    let header-from = c .before .before .before .before .before .before .before .before .before .before .header-from in
+    let write-to-slice = c .before .before .before .before .write-to-slice in
+    let a = c .before .before .before .before .before .before .before .before .before .before .before .before .args in
+    let fault-from = c .before .before .before .before .before .before .fault-from in (
+      given-shown writtenNumbers _ _ _ _ (ap headerAnswer (sym (joined2 .given .1)) ∙ header-from .ensures)
+          (c .show-written .ensures
+          ∙ ap (shown writtenNumbers)
+          (write-to-slice .ensures .0
+          ∙ ap
+          (λ (x : FaultLocation). writingEof (eofFrom (joined2 .given .0 .0) (a .condition) (a .file-checksum) (a .file-size) x) (length (a .buf .now)))
+          (fault-from .ensures))),
+      given-left _ _ _ _ _ (ap headerAnswer (sym (joined2 .given .1)) ∙ header-from .ensures)
+          (write-to-slice .ensures .1
+          ∙ ap
+          (λ (x : FaultLocation). eofMemory (eofFrom (joined2 .given .0 .0) (a .condition) (a .file-checksum) (a .file-size) x) (a .buf .now))
+          (fault-from .ensures)),
+    )
 
 pub cfdp-eof-write-spec : {M : Type 1} → statement M
 cfdp-eof-write-spec =

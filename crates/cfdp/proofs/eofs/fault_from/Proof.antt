@@ -12,7 +12,8 @@ returns : tie.Need-returns
 returns c = ap (λ (b : Bool). faultFrom b (c .before .args .width) (c .before .args .value)) (sym (not-true (c .before .args .there) (c .if1 .taken)))
 
 returns-2 : tie.Need-returns-2
-returns-2 c = ap (λ (b : Bool). faultFrom b (c .before .args .width) (c .before .args .value)) (sym (not-false (c .before .args .there) (c .if1 .left)))
+returns-2 c =
+    ap (λ (b : Bool). faultFrom b (c .before .args .width) (c .before .args .value)) (sym (not-false (c .before .args .there) (c .if1 .left)))
 
 pub fault-from-spec : {M : Type 1} → statement M
 fault-from-spec = tie.close (tie.spec returns returns-2)

@@ -27,7 +27,11 @@ element-write-answer-2 : tie.Need-element-write-answer-2
 element-write-answer-2 c = search needs
 
 returns : tie.Need-returns
-returns c = eof-numbers (c .before .before .before .before .before .before .before .args .eof) _ _ _ _ _ (c .before .before .fault-numbers .ensures) (c .before .before .before .before .before .data-end .ensures) (c .show-header .ensures)
+returns c =
+    let a = c .before .before .before .before .before .before .before .args in
+    let fault-numbers = c .before .before .fault-numbers in
+    let data-end = c .before .before .before .before .before .data-end in
+    eof-numbers (a .eof) _ _ _ _ _ (fault-numbers .ensures) (data-end .ensures) (c .show-header .ensures)
 
 pub show-eof-spec : {M : Type 1} → statement M
 show-eof-spec =

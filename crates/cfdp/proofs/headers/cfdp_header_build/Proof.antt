@@ -27,10 +27,18 @@ show-built-requires : tie.Need-show-built-requires
 show-built-requires c κs = search needs
 
 returns : tie.Need-returns
-returns c = none-shown headerNumbers _ _ _ _ (ap headerAnswer (sym (c .before .before .before .joined .given .1)) ∙ c .before .before .before .before .before .header-from .ensures) (c .show-refusal .ensures)
+returns c =
+    let joined = c .before .before .before .joined in
+    let header-from = c .before .before .before .before .before .header-from in
+    none-shown headerNumbers _ _ _ _ (ap headerAnswer (sym (joined .given .1)) ∙ header-from .ensures) (c .show-refusal .ensures)
 
 returns-2 : tie.Need-returns-2
-returns-2 c = given-shown headerNumbers _ _ _ _ (ap headerAnswer (sym (c .before .before .before .before .joined2 .given .1)) ∙ c .before .before .before .before .before .before .header-from .ensures) (c .show-built .ensures ∙ ap (shown headerNumbers) (c .before .before .judged .ensures))
+returns-2 c =
+    let joined2 = c .before .before .before .before .joined2 in
+    let header-from = c .before .before .before .before .before .before .header-from in
+    let judged = c .before .before .judged in
+    given-shown headerNumbers _ _ _ _ (ap headerAnswer (sym (joined2 .given .1)) ∙ header-from .ensures)
+    (c .show-built .ensures ∙ ap (shown headerNumbers) (judged .ensures))
 
 pub cfdp-header-build-spec : {M : Type 1} → statement M
 cfdp-header-build-spec =

@@ -28,11 +28,16 @@ show-header-requires c κs = search needs
 
 returns : tie.Need-returns
 returns c =
-    refused-shown readHeaderNumbers _ _ _ (ap headerAnswer (sym (c .before .before .before .read .given .1)) ∙ c .before .before .before .before .before .from-bytes .ensures) (c .show-refusal .ensures)
+    let read = c .before .before .before .read in
+    let from-bytes = c .before .before .before .before .before .from-bytes in
+    refused-shown readHeaderNumbers _ _ _ (ap headerAnswer (sym (read .given .1)) ∙ from-bytes .ensures) (c .show-refusal .ensures)
 
 returns-2 : tie.Need-returns-2
 returns-2 c =
-    read-header-shown _ _ _ _ (ap headerAnswer (sym (c .before .before .before .before .read2 .given .1)) ∙ c .before .before .before .before .before .before .from-bytes .ensures) (c .before .before .header-len .ensures .0) (c .show-header .ensures)
+    let read2 = c .before .before .before .before .read2 in
+    let from-bytes = c .before .before .before .before .before .before .from-bytes in
+    let header-len = c .before .before .header-len in
+    read-header-shown _ _ _ _ (ap headerAnswer (sym (read2 .given .1)) ∙ from-bytes .ensures) (header-len .ensures .0) (c .show-header .ensures)
 
 pub cfdp-header-read-spec : {M : Type 1} → statement M
 cfdp-header-read-spec =

@@ -27,10 +27,18 @@ show-length-requires : tie.Need-show-length-requires
 show-length-requires c κs = search needs
 
 returns : tie.Need-returns
-returns c = none-shown oneNumber _ _ _ _ (ap headerAnswer (sym (c .before .before .before .joined .given .1)) ∙ c .before .before .before .before .before .header-from .ensures) (c .show-refusal .ensures)
+returns c =
+    let joined = c .before .before .before .joined in
+    let header-from = c .before .before .before .before .before .header-from in
+    none-shown oneNumber _ _ _ _ (ap headerAnswer (sym (joined .given .1)) ∙ header-from .ensures) (c .show-refusal .ensures)
 
 returns-2 : tie.Need-returns-2
-returns-2 c = given-shown oneNumber _ _ _ _ (ap headerAnswer (sym (c .before .before .before .before .joined2 .given .1)) ∙ c .before .before .before .before .before .before .header-from .ensures) (c .show-length .ensures ∙ ap (shown oneNumber) (c .before .before .verify-length-and-checksum .ensures))
+returns-2 c =
+    let joined2 = c .before .before .before .before .joined2 in
+    let header-from = c .before .before .before .before .before .before .header-from in
+    let verify-length-and-checksum = c .before .before .verify-length-and-checksum in
+    given-shown oneNumber _ _ _ _ (ap headerAnswer (sym (joined2 .given .1)) ∙ header-from .ensures)
+    (c .show-length .ensures ∙ ap (shown oneNumber) (verify-length-and-checksum .ensures))
 
 pub cfdp-header-verify-spec : {M : Type 1} → statement M
 cfdp-header-verify-spec =

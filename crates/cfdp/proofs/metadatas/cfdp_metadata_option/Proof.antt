@@ -28,13 +28,22 @@ show-option-requires : tie.Need-show-option-requires
 show-option-requires c κs = search needs
 
 returns : tie.Need-returns
-returns c = cut-shown _ _ _ (sym (c .before .before .before .found .given .1) ∙ c .before .before .before .before .before .next-option .ensures) (c .show-refusal .ensures)
+returns c =
+    let found = c .before .before .before .found in
+    let next-option = c .before .before .before .before .before .next-option in
+    cut-shown _ _ _ (sym (found .given .1) ∙ next-option .ensures) (c .show-refusal .ensures)
 
 returns-2 : tie.Need-returns-2
-returns-2 c = end-shown _ _ (sym (c .before .before .enum-told .given .1) ∙ c .before .before .before .before .next-option .ensures) (c .show-few .ensures)
+returns-2 c =
+    let enum-told = c .before .before .enum-told in
+    let next-option = c .before .before .before .before .next-option in
+    end-shown _ _ (sym (enum-told .given .1) ∙ next-option .ensures) (c .show-few .ensures)
 
 returns-3 : tie.Need-returns-3
-returns-3 c = field-shown _ _ _ _ (sym (c .before .before .before .found2 .given .1) ∙ c .before .before .before .before .before .next-option .ensures) (c .show-option .ensures)
+returns-3 c =
+    let found2 = c .before .before .before .found2 in
+    let next-option = c .before .before .before .before .before .next-option in
+    field-shown _ _ _ _ (sym (found2 .given .1) ∙ next-option .ensures) (c .show-option .ensures)
 
 pub cfdp-metadata-option-spec : {M : Type 1} → statement M
 cfdp-metadata-option-spec = tie.close (tie.spec next-option-requires enum-known-found show-refusal-requires enum-told show-few-requires enum-known-found-2 show-option-requires returns returns-2 returns-3)

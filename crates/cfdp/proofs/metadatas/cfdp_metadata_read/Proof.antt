@@ -24,10 +24,16 @@ show-metadata-requires : tie.Need-show-metadata-requires
 show-metadata-requires c κs = search needs
 
 returns : tie.Need-returns
-returns c = refused-shown metadataNumbers _ _ _ (ap metadataAnswer (sym (c .before .before .before .read .given .1)) ∙ c .before .before .before .before .before .from-bytes .ensures) (c .show-refusal .ensures)
+returns c =
+    let read = c .before .before .before .read in
+    let from-bytes = c .before .before .before .before .before .from-bytes in
+    refused-shown metadataNumbers _ _ _ (ap metadataAnswer (sym (read .given .1)) ∙ from-bytes .ensures) (c .show-refusal .ensures)
 
 returns-2 : tie.Need-returns-2
-returns-2 c = accepted-shown metadataNumbers _ _ _ (ap metadataAnswer (sym (c .before .before .before .read2 .given .1)) ∙ c .before .before .before .before .before .from-bytes .ensures) (c .show-metadata .ensures)
+returns-2 c =
+    let read2 = c .before .before .before .read2 in
+    let from-bytes = c .before .before .before .before .before .from-bytes in
+    accepted-shown metadataNumbers _ _ _ (ap metadataAnswer (sym (read2 .given .1)) ∙ from-bytes .ensures) (c .show-metadata .ensures)
 
 pub cfdp-metadata-read-spec : {M : Type 1} → statement M
 cfdp-metadata-read-spec = tie.close (tie.spec from-bytes-requires enum-known-read show-refusal-requires enum-known-read-2 show-metadata-requires returns returns-2)

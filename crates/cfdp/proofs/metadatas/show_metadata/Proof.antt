@@ -30,7 +30,10 @@ element-write-answer-4 : tie.Need-element-write-answer-4
 element-write-answer-4 c = search needs
 
 returns : tie.Need-returns
-returns c = metadata-numbers (c .before .before .before .before .before .before .before .before .before .args .metadata) _ _ (c .before .before .before .closure-bit .ensures .0) (c .show-header .ensures)
+returns c =
+    let a = c .before .before .before .before .before .before .before .before .before .args in
+    let closure-bit = c .before .before .before .closure-bit in
+    metadata-numbers (a .metadata) _ _ (closure-bit .ensures .0) (c .show-header .ensures)
 
 pub show-metadata-spec : {M : Type 1} → statement M
 show-metadata-spec = tie.close (tie.spec closure-bit-requires cast-show-header cast-show-header-2 show-header-requires element-write-answer element-write-answer-2 element-write-answer-3 element-write-answer-4 returns)

@@ -24,10 +24,16 @@ show-number-requires : tie.Need-show-number-requires
 show-number-requires c κs = search needs
 
 returns : tie.Need-returns
-returns c = (refused-shown oneNumber _ _ _ (ap entryAnswer (sym (c .before .before .before .taken .given .1)) ∙ c .before .before .before .before .before .entry .ensures .0) (c .show-refusal .ensures), c .before .before .before .before .before .entry .ensures .1)
+returns c =
+    let taken = c .before .before .before .taken in
+    let entry = c .before .before .before .before .before .entry in
+    (refused-shown oneNumber _ _ _ (ap entryAnswer (sym (taken .given .1)) ∙ entry .ensures .0) (c .show-refusal .ensures), entry .ensures .1)
 
 returns-2 : tie.Need-returns-2
-returns-2 c = (accepted-shown oneNumber _ _ _ (ap entryAnswer (sym (c .before .before .before .taken2 .given .1)) ∙ c .before .before .before .before .before .entry .ensures .0) (c .show-number .ensures), c .before .before .before .before .before .entry .ensures .1)
+returns-2 c =
+    let taken2 = c .before .before .before .taken2 in
+    let entry = c .before .before .before .before .before .entry in
+    (accepted-shown oneNumber _ _ _ (ap entryAnswer (sym (taken2 .given .1)) ∙ entry .ensures .0) (c .show-number .ensures), entry .ensures .1)
 
 pub cfdp-owed-entry-spec : {M : Type 1} → statement M
 cfdp-owed-entry-spec =

@@ -29,10 +29,16 @@ element-write-answer-2 : tie.Need-element-write-answer-2
 element-write-answer-2 c = search needs
 
 returns : tie.Need-returns
-returns c = (refused-standing _ _ _ _ (ap stopAnswer (sym (c .before .before .before .ran .given .1)) ∙ c .before .before .before .before .before .run .ensures .0) (c .show-refusal .ensures), c .before .before .before .before .before .run .ensures .1)
+returns c =
+    let ran = c .before .before .before .ran in
+    let run = c .before .before .before .before .before .run in
+    (refused-standing _ _ _ _ (ap stopAnswer (sym (ran .given .1)) ∙ run .ensures .0) (c .show-refusal .ensures), run .ensures .1)
 
 returns-2 : tie.Need-returns-2
-returns-2 c = (ended-standing _ _ _ (ap stopAnswer (sym (c .before .before .before .ran2 .given .1)) ∙ c .before .before .before .before .before .run .ensures .0) (c .show-few .ensures), c .before .before .before .before .before .run .ensures .1)
+returns-2 c =
+    let ran2 = c .before .before .before .ran2 in
+    let run = c .before .before .before .before .before .run in
+    (ended-standing _ _ _ (ap stopAnswer (sym (ran2 .given .1)) ∙ run .ensures .0) (c .show-few .ensures), run .ensures .1)
 
 pub cfdp-owed-run-spec : {M : Type 1} → statement M
 cfdp-owed-run-spec =

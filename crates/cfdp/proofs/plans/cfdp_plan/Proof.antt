@@ -28,7 +28,15 @@ show-planned-requires : tie.Need-show-planned-requires
 show-planned-requires c κs = search needs
 
 returns : tie.Need-returns
-returns c = (none-shown planNumbers _ _ _ _ (ap headerAnswer (sym (c .before .before .before .joined .given .1)) ∙ c .before .before .before .before .before .header-from .ensures) (c .show-refusal .ensures), (none-left _ _ _ _ (ap headerAnswer (sym (c .before .before .before .joined .given .1)) ∙ c .before .before .before .before .before .header-from .ensures), none-left _ _ _ _ (ap headerAnswer (sym (c .before .before .before .joined .given .1)) ∙ c .before .before .before .before .before .header-from .ensures)))
+returns c =
+    let joined = c .before .before .before .joined in
+    let header-from = c .before .before .before .before .before .header-from in (
+      none-shown planNumbers _ _ _ _ (ap headerAnswer (sym (joined .given .1)) ∙ header-from .ensures) (c .show-refusal .ensures),
+      (
+        none-left _ _ _ _ (ap headerAnswer (sym (joined .given .1)) ∙ header-from .ensures),
+        none-left _ _ _ _ (ap headerAnswer (sym (joined .given .1)) ∙ header-from .ensures),
+      ),
+    )
 
 same-length : tie.Need-same-length
 same-length c = search needs
@@ -37,7 +45,17 @@ same-length-2 : tie.Need-same-length-2
 same-length-2 c = search needs
 
 returns-2 : tie.Need-returns-2
-returns-2 c = (given-shown planNumbers _ _ _ _ (ap headerAnswer (sym (c .before .before .before .before .before .before .before .before .before .before .joined2 .given .1)) ∙ c .before .before .before .before .before .before .before .before .before .before .before .before .header-from .ensures) (c .show-planned .ensures ∙ ap (shown planNumbers) (c .before .before .before .before .before .before .plan .ensures .0)), (given-left _ _ _ _ _ (ap headerAnswer (sym (c .before .before .before .before .before .before .before .before .before .before .joined2 .given .1)) ∙ c .before .before .before .before .before .before .before .before .before .before .before .before .header-from .ensures) (c .before .before .before .before .before .before .plan .ensures .1 .0), given-left _ _ _ _ _ (ap headerAnswer (sym (c .before .before .before .before .before .before .before .before .before .before .joined2 .given .1)) ∙ c .before .before .before .before .before .before .before .before .before .before .before .before .header-from .ensures) (c .before .before .before .before .before .before .plan .ensures .1 .1)))
+returns-2 c =
+    let joined2 = c .before .before .before .before .before .before .before .before .before .before .joined2 in
+    let header-from = c .before .before .before .before .before .before .before .before .before .before .before .before .header-from in
+    let plan = c .before .before .before .before .before .before .plan in (
+      given-shown planNumbers _ _ _ _ (ap headerAnswer (sym (joined2 .given .1)) ∙ header-from .ensures)
+          (c .show-planned .ensures ∙ ap (shown planNumbers) (plan .ensures .0)),
+      (
+        given-left _ _ _ _ _ (ap headerAnswer (sym (joined2 .given .1)) ∙ header-from .ensures) (plan .ensures .1 .0),
+        given-left _ _ _ _ _ (ap headerAnswer (sym (joined2 .given .1)) ∙ header-from .ensures) (plan .ensures .1 .1),
+      ),
+    )
 
 pub cfdp-plan-spec : {M : Type 1} → statement M
 cfdp-plan-spec =

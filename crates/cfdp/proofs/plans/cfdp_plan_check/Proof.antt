@@ -27,10 +27,18 @@ show-checked-requires : tie.Need-show-checked-requires
 show-checked-requires c κs = search needs
 
 returns : tie.Need-returns
-returns c = none-shown verdictNumber _ _ _ _ (ap headerAnswer (sym (c .before .before .before .joined .given .1)) ∙ c .before .before .before .before .before .header-from .ensures) (c .show-refusal .ensures)
+returns c =
+    let joined = c .before .before .before .joined in
+    let header-from = c .before .before .before .before .before .header-from in
+    none-shown verdictNumber _ _ _ _ (ap headerAnswer (sym (joined .given .1)) ∙ header-from .ensures) (c .show-refusal .ensures)
 
 returns-2 : tie.Need-returns-2
-returns-2 c = given-shown verdictNumber _ _ _ _ (ap headerAnswer (sym (c .before .before .before .before .joined2 .given .1)) ∙ c .before .before .before .before .before .before .header-from .ensures) (c .show-checked .ensures ∙ ap (shown verdictNumber) (c .before .before .check-plan .ensures))
+returns-2 c =
+    let joined2 = c .before .before .before .before .joined2 in
+    let header-from = c .before .before .before .before .before .before .header-from in
+    let check-plan = c .before .before .check-plan in
+    given-shown verdictNumber _ _ _ _ (ap headerAnswer (sym (joined2 .given .1)) ∙ header-from .ensures)
+    (c .show-checked .ensures ∙ ap (shown verdictNumber) (check-plan .ensures))
 
 pub cfdp-plan-check-spec : {M : Type 1} → statement M
 cfdp-plan-check-spec =

@@ -23,7 +23,11 @@ show-number-requires : tie.Need-show-number-requires
 show-number-requires c κs = search needs
 
 returns : tie.Need-returns
-returns c = accepted-shown verdictNumber _ _ _ (ap checkAnswer (sym (c .before .before .before .before .result2 .given .1))) (c .show-number .ensures ∙ ap (λ (v : Bool). padded answerSize (0 ∷ verdictNumber v)) (sym (c .before .before .if1 .taken)))
+returns c =
+    let result2 = c .before .before .before .before .result2 in
+    let if1 = c .before .before .if1 in
+    accepted-shown verdictNumber _ _ _ (ap checkAnswer (sym (result2 .given .1)))
+    (c .show-number .ensures ∙ ap (λ (v : Bool). padded answerSize (0 ∷ verdictNumber v)) (sym (if1 .taken)))
 
 show-number-requires-2 : tie.Need-show-number-requires-2
 show-number-requires-2 c κs = search needs
@@ -32,7 +36,11 @@ returns-2 : tie.Need-returns-2
 returns-2 c = refused-shown verdictNumber _ _ _ (ap checkAnswer (sym (c .before .before .before .result .given .1))) (c .show-refusal .ensures)
 
 returns-3 : tie.Need-returns-3
-returns-3 c = accepted-shown verdictNumber _ _ _ (ap checkAnswer (sym (c .before .before .before .before .result2 .given .1))) (c .show-number2 .ensures ∙ ap (λ (v : Bool). padded answerSize (0 ∷ verdictNumber v)) (sym (c .before .before .if1 .left)))
+returns-3 c =
+    let result2 = c .before .before .before .before .result2 in
+    let if1 = c .before .before .if1 in
+    accepted-shown verdictNumber _ _ _ (ap checkAnswer (sym (result2 .given .1)))
+    (c .show-number2 .ensures ∙ ap (λ (v : Bool). padded answerSize (0 ∷ verdictNumber v)) (sym (if1 .left)))
 
 pub show-checked-spec : {M : Type 1} → statement M
 show-checked-spec =

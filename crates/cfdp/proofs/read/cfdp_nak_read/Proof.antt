@@ -25,11 +25,15 @@ show-header-requires c κs = search needs
 
 returns : tie.Need-returns
 returns c =
-    refused-shown nakNumbers _ _ _ (ap nakAnswer (sym (c .before .before .before .read .given .1)) ∙ c .before .before .before .before .before .from-bytes .ensures) (c .show-refusal .ensures)
+    let read = c .before .before .before .read in
+    let from-bytes = c .before .before .before .before .before .from-bytes in
+    refused-shown nakNumbers _ _ _ (ap nakAnswer (sym (read .given .1)) ∙ from-bytes .ensures) (c .show-refusal .ensures)
 
 returns-2 : tie.Need-returns-2
 returns-2 c =
-    accepted-shown nakNumbers _ _ _ (ap nakAnswer (sym (c .before .before .before .before .read2 .given .1)) ∙ c .before .before .before .before .before .before .from-bytes .ensures) (c .show-header .ensures)
+    let read2 = c .before .before .before .before .read2 in
+    let from-bytes = c .before .before .before .before .before .before .from-bytes in
+    accepted-shown nakNumbers _ _ _ (ap nakAnswer (sym (read2 .given .1)) ∙ from-bytes .ensures) (c .show-header .ensures)
 
 pub cfdp-nak-read-spec : {M : Type 1} → statement M
 cfdp-nak-read-spec =

@@ -18,7 +18,9 @@ no-pair-requires c κs = search needs
 
 returns : tie.Need-returns
 returns c =
-    no-pair (c .before .before .before .before .args .large) (c .before .before .before .before .args .area .now) _ _ _ (c .before .before .pair-size .ensures .0) (c .before .if1 .taken) (c .no-pair .ensures)
+    let a = c .before .before .before .before .args in
+    let pair-size = c .before .before .pair-size in
+    no-pair (a .large) (a .area .now) _ _ _ (pair-size .ensures .0) (c .before .if1 .taken) (c .no-pair .ensures)
 
 mul-from : tie.Need-mul-from
 mul-from c =
@@ -54,11 +56,24 @@ no-pair-requires-2 c κs = search needs
 
 returns-2 : tie.Need-returns-2
 returns-2 c =
-    found-pair (c .before .before .before .before .before .before .before .before .before .args .large) (c .before .before .before .before .before .before .before .before .before .args .area .now) _ _ (c .before .before .before .before .before .before .before .pair-size .ensures .0) (c .before .before .before .before .before .before .if1 .left) _ _ _ _ (c .before .before .before .before .from-bit .ensures) (sym (c .before .found .given .1) ∙ c .before .before .before .next .ensures)
+    let a = c .before .before .before .before .before .before .before .before .before .args in
+    let pair-size = c .before .before .before .before .before .before .before .pair-size in
+    let if1 = c .before .before .before .before .before .before .if1 in
+    let from-bit = c .before .before .before .before .from-bit in
+    let next = c .before .before .before .next in
+    found-pair (a .large) (a .area .now) _ _ (pair-size .ensures .0) (if1 .left) _ _ _ _ (from-bit .ensures)
+    (sym (c .before .found .given .1) ∙ next .ensures)
 
 returns-3 : tie.Need-returns-3
 returns-3 c =
-    absurd (not-end (c .before .before .before .before .before .before .before .before .before .args .large) (c .before .before .before .before .before .before .before .before .before .args .area .now) _ _ (c .before .before .before .before .before .before .before .pair-size .ensures .0) (c .before .before .before .before .before .before .if1 .left) _ (c .before .before .before .before .from-bit .ensures) (sym (c .before .enum-told .given .1) ∙ c .before .before .before .next .ensures))
+    let a = c .before .before .before .before .before .before .before .before .before .args in
+    let pair-size = c .before .before .before .before .before .before .before .pair-size in
+    let if1 = c .before .before .before .before .before .before .if1 in
+    let from-bit = c .before .before .before .before .from-bit in
+    let next = c .before .before .before .next in
+    absurd
+    (not-end (a .large) (a .area .now) _ _ (pair-size .ensures .0) (if1 .left) _ (from-bit .ensures)
+    (sym (c .before .enum-told .given .1) ∙ next .ensures))
 
 pub pair-at-spec : {M : Type 1} → statement M
 pair-at-spec =

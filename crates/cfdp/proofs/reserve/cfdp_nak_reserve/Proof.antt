@@ -27,10 +27,18 @@ show-reserved-requires : tie.Need-show-reserved-requires
 show-reserved-requires c κs = search needs
 
 returns : tie.Need-returns
-returns c = none-shown reservedNumbers _ _ _ _ (ap headerAnswer (sym (c .before .before .before .joined .given .1)) ∙ c .before .before .before .before .before .header-from .ensures) (c .show-refusal .ensures)
+returns c =
+    let joined = c .before .before .before .joined in
+    let header-from = c .before .before .before .before .before .header-from in
+    none-shown reservedNumbers _ _ _ _ (ap headerAnswer (sym (joined .given .1)) ∙ header-from .ensures) (c .show-refusal .ensures)
 
 returns-2 : tie.Need-returns-2
-returns-2 c = given-shown reservedNumbers _ _ _ _ (ap headerAnswer (sym (c .before .before .before .before .joined2 .given .1)) ∙ c .before .before .before .before .before .before .header-from .ensures) (c .show-reserved .ensures ∙ ap (shown reservedNumbers) (c .before .before .new .ensures))
+returns-2 c =
+    let joined2 = c .before .before .before .before .joined2 in
+    let header-from = c .before .before .before .before .before .before .header-from in
+    let new = c .before .before .new in
+    given-shown reservedNumbers _ _ _ _ (ap headerAnswer (sym (joined2 .given .1)) ∙ header-from .ensures)
+    (c .show-reserved .ensures ∙ ap (shown reservedNumbers) (new .ensures))
 
 pub cfdp-nak-reserve-spec : {M : Type 1} → statement M
 cfdp-nak-reserve-spec =

@@ -27,7 +27,10 @@ returns : tie.Need-returns
 returns c = refused-shown reservedNumbers _ _ _ (ap reserveAnswer (sym (c .before .before .before .result .given .1))) (c .show-refusal .ensures)
 
 returns-2 : tie.Need-returns-2
-returns-2 c = reserved-shown _ _ _ _ (ap reserveAnswer (sym (c .before .before .before .before .before .result2 .given .1))) (c .before .before .pdu-len .ensures .0) (c .show-header .ensures)
+returns-2 c =
+    let result2 = c .before .before .before .before .before .result2 in
+    let pdu-len = c .before .before .pdu-len in
+    reserved-shown _ _ _ _ (ap reserveAnswer (sym (result2 .given .1))) (pdu-len .ensures .0) (c .show-header .ensures)
 
 pub show-reserved-spec : {M : Type 1} → statement M
 show-reserved-spec =

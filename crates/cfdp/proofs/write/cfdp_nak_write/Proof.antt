@@ -27,13 +27,25 @@ show-written-requires : tie.Need-show-written-requires
 show-written-requires c κs = search needs
 
 returns : tie.Need-returns
-returns c = (none-shown writtenNumbers _ _ _ _ (ap headerAnswer (sym (c .before .before .before .joined .given .1)) ∙ c .before .before .before .before .before .header-from .ensures) (c .show-refusal .ensures), none-left _ _ _ _ (ap headerAnswer (sym (c .before .before .before .joined .given .1)) ∙ c .before .before .before .before .before .header-from .ensures))
+returns c =
+    let joined = c .before .before .before .joined in
+    let header-from = c .before .before .before .before .before .header-from in (
+      none-shown writtenNumbers _ _ _ _ (ap headerAnswer (sym (joined .given .1)) ∙ header-from .ensures) (c .show-refusal .ensures),
+      none-left _ _ _ _ (ap headerAnswer (sym (joined .given .1)) ∙ header-from .ensures),
+    )
 
 same-length : tie.Need-same-length
 same-length c = search needs
 
 returns-2 : tie.Need-returns-2
-returns-2 c = (given-shown writtenNumbers _ _ _ _ (ap headerAnswer (sym (c .before .before .before .before .before .before .before .joined2 .given .1)) ∙ c .before .before .before .before .before .before .before .before .before .header-from .ensures) (c .show-written .ensures ∙ ap (shown writtenNumbers) (c .before .before .before .before .write-no-segment-requests .ensures .0)), given-left _ _ _ _ _ (ap headerAnswer (sym (c .before .before .before .before .before .before .before .joined2 .given .1)) ∙ c .before .before .before .before .before .before .before .before .before .header-from .ensures) (c .before .before .before .before .write-no-segment-requests .ensures .1))
+returns-2 c =
+    let joined2 = c .before .before .before .before .before .before .before .joined2 in
+    let header-from = c .before .before .before .before .before .before .before .before .before .header-from in
+    let write-no-segment-requests = c .before .before .before .before .write-no-segment-requests in (
+      given-shown writtenNumbers _ _ _ _ (ap headerAnswer (sym (joined2 .given .1)) ∙ header-from .ensures)
+          (c .show-written .ensures ∙ ap (shown writtenNumbers) (write-no-segment-requests .ensures .0)),
+      given-left _ _ _ _ _ (ap headerAnswer (sym (joined2 .given .1)) ∙ header-from .ensures) (write-no-segment-requests .ensures .1),
+    )
 
 pub cfdp-nak-write-spec : {M : Type 1} → statement M
 cfdp-nak-write-spec =

@@ -17,7 +17,10 @@ is-width-requires : tie.Need-is-width-requires
 is-width-requires c κs = search needs
 
 returns-2 : tie.Need-returns-2
-returns-2 c = fault-other _ (c .before .before .before .if1 .left) _ (c .before .before .field-width .ensures) (sym (c .before .is-width .ensures) ∙ not-true _ (c .if2 .taken))
+returns-2 c =
+    let if1 = c .before .before .before .if1 in
+    let field-width = c .before .before .field-width in
+    fault-other _ (if1 .left) _ (field-width .ensures) (sym (c .before .is-width .ensures) ∙ not-true _ (c .if2 .taken))
 
 cast-read-be : tie.Need-cast-read-be
 cast-read-be c = search needs
@@ -26,7 +29,11 @@ read-be-requires : tie.Need-read-be-requires
 read-be-requires c κs = search needs
 
 returns-3 : tie.Need-returns-3
-returns-3 c = fault-found _ (c .before .before .before .before .if1 .left) _ (c .before .before .before .field-width .ensures) _ (sym (c .before .before .is-width .ensures) ∙ not-false _ (c .before .if2 .left)) (c .read-be .ensures .0)
+returns-3 c =
+    let if1 = c .before .before .before .before .if1 in
+    let field-width = c .before .before .before .field-width in
+    let is-width = c .before .before .is-width in
+    fault-found _ (if1 .left) _ (field-width .ensures) _ (sym (is-width .ensures) ∙ not-false _ (c .before .if2 .left)) (c .read-be .ensures .0)
 
 pub fault-in-spec : {M : Type 1} → statement M
 fault-in-spec =

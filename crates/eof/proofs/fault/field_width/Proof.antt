@@ -20,7 +20,11 @@ sub-result : tie.Need-sub-result
 sub-result c = only-forwards _ _ (sym (c .before .before .found .given .1) ∙ c .before .before .before .before .only-field .ensures)
 
 cast-result : tie.Need-cast-result
-cast-result c = omega (arith, only-byte _ _ (sym (c .before .before .found .given .1) ∙ c .before .before .before .before .only-field .ensures) (λ i. omega (arith, c .before .before .before .before .before .shared-slice-known .given i)))
+cast-result c =
+    let found = c .before .before .found in
+    let only-field = c .before .before .before .before .only-field in
+    let shared-slice-known = c .before .before .before .before .before .shared-slice-known in
+    omega (arith, only-byte _ _ (sym (found .given .1) ∙ only-field .ensures) (λ i. omega (arith, shared-slice-known .given i)))
 
 returns : tie.Need-returns
 returns c = no-width _ _ (c .enum-told .given .1) (c .before .before .only-field .ensures)

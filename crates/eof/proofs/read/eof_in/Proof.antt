@@ -28,13 +28,27 @@ enum-known-there : tie.Need-enum-known-there
 enum-known-there c = search needs
 
 returns : tie.Need-returns
-returns c = eof-short (c .before .before .before .before .before .before .before .args .header) (c .before .before .before .before .before .before .before .args .content .now) (c .before .before .before .before .before .before .before .args .stop) _ _ (c .before .before .before .before .before .before .before .pre .0) (c .before .before .before .before .header-len .ensures .0) (c .before .before .before .before .before .size-width .ensures .0) _ (ap judgedAnswer (sym (c .before .there .given .1)) ∙ c .before .before .before .judge-data .ensures)
+returns c =
+    let a = c .before .before .before .before .before .before .before .args in
+    let pre = c .before .before .before .before .before .before .before .pre in
+    let header-len = c .before .before .before .before .header-len in
+    let size-width = c .before .before .before .before .before .size-width in
+    let judge-data = c .before .before .before .judge-data in
+    eof-short (a .header) (a .content .now) (a .stop) _ _ (pre .0) (header-len .ensures .0) (size-width .ensures .0) _
+    (ap judgedAnswer (sym (c .before .there .given .1)) ∙ judge-data .ensures)
 
 enum-told : tie.Need-enum-told
 enum-told c = search needs
 
 shared-slice-read-condition : tie.Need-shared-slice-read-condition
-shared-slice-read-condition c = omega (arith, long-enough (c .before .before .before .before .before .before .before .args .header) (c .before .before .before .before .before .before .before .args .content .now) (c .before .before .before .before .before .before .before .args .stop) _ _ (c .before .before .before .before .before .before .before .pre .0) (c .before .before .before .before .header-len .ensures .0) (c .before .before .before .before .before .size-width .ensures .0) (ap judgedAnswer (sym (c .before .enum-told .given .1)) ∙ c .before .before .before .judge-data .ensures) (c .before .before .before .before .before .before .before .pre .1))
+shared-slice-read-condition c =
+    let a = c .before .before .before .before .before .before .before .args in
+    let pre = c .before .before .before .before .before .before .before .pre in
+    let header-len = c .before .before .before .before .header-len in
+    let size-width = c .before .before .before .before .before .size-width in
+    let judge-data = c .before .before .before .judge-data in
+    omega
+    (arith, long-enough (a .header) (a .content .now) (a .stop) _ _ (pre .0) (header-len .ensures .0) (size-width .ensures .0) (ap judgedAnswer (sym (c .before .enum-told .given .1)) ∙ judge-data .ensures) (pre .1))
 
 judge-condition-requires : tie.Need-judge-condition-requires
 judge-condition-requires c κs = search needs
@@ -43,16 +57,42 @@ enum-known-judged : tie.Need-enum-known-judged
 enum-known-judged c = search needs
 
 returns-2 : tie.Need-returns-2
-returns-2 c = eof-reserved (c .before .before .before .before .before .before .before .before .before .before .before .args .header) (c .before .before .before .before .before .before .before .before .before .before .before .args .content .now) (c .before .before .before .before .before .before .before .before .before .before .before .args .stop) _ _ (c .before .before .before .before .before .before .before .before .before .before .before .pre .0) (c .before .before .before .before .before .before .before .before .header-len .ensures .0) (c .before .before .before .before .before .before .before .before .before .size-width .ensures .0) (ap judgedAnswer (sym (c .before .before .before .before .before .enum-told .given .1)) ∙ c .before .before .before .before .before .before .before .judge-data .ensures) _ (ap judgedAnswer (sym (c .before .judged .given .1)) ∙ c .before .before .before .judge-condition .ensures)
+returns-2 c =
+    let a = c .before .before .before .before .before .before .before .before .before .before .before .args in
+    let pre = c .before .before .before .before .before .before .before .before .before .before .before .pre in
+    let header-len = c .before .before .before .before .before .before .before .before .header-len in
+    let size-width = c .before .before .before .before .before .before .before .before .before .size-width in
+    let enum-told = c .before .before .before .before .before .enum-told in
+    let judge-data = c .before .before .before .before .before .before .before .judge-data in
+    let judge-condition = c .before .before .before .judge-condition in
+    eof-reserved (a .header) (a .content .now) (a .stop) _ _ (pre .0) (header-len .ensures .0) (size-width .ensures .0)
+    (ap judgedAnswer (sym (enum-told .given .1)) ∙ judge-data .ensures) _
+    (ap judgedAnswer (sym (c .before .judged .given .1)) ∙ judge-condition .ensures)
 
 enum-told-2 : tie.Need-enum-told-2
 enum-told-2 c = search needs
 
 sub-fault-in : tie.Need-sub-fault-in
-sub-fault-in c = long-enough (c .before .before .before .before .before .before .before .before .before .before .args .header) (c .before .before .before .before .before .before .before .before .before .before .args .content .now) (c .before .before .before .before .before .before .before .before .before .before .args .stop) _ _ (c .before .before .before .before .before .before .before .before .before .before .pre .0) (c .before .before .before .before .before .before .before .header-len .ensures .0) (c .before .before .before .before .before .before .before .before .size-width .ensures .0) (ap judgedAnswer (sym (c .before .before .before .before .enum-told .given .1)) ∙ c .before .before .before .before .before .before .judge-data .ensures) (c .before .before .before .before .before .before .before .before .before .before .pre .1)
+sub-fault-in c =
+    let a = c .before .before .before .before .before .before .before .before .before .before .args in
+    let pre = c .before .before .before .before .before .before .before .before .before .before .pre in
+    let header-len = c .before .before .before .before .before .before .before .header-len in
+    let size-width = c .before .before .before .before .before .before .before .before .size-width in
+    let enum-told = c .before .before .before .before .enum-told in
+    let judge-data = c .before .before .before .before .before .before .judge-data in
+    long-enough (a .header) (a .content .now) (a .stop) _ _ (pre .0) (header-len .ensures .0) (size-width .ensures .0)
+    (ap judgedAnswer (sym (enum-told .given .1)) ∙ judge-data .ensures) (pre .1)
 
 part-fault-in-start : tie.Need-part-fault-in-start
-part-fault-in-start c = long-enough (c .before .before .before .before .before .before .before .before .before .before .args .header) (c .before .before .before .before .before .before .before .before .before .before .args .content .now) (c .before .before .before .before .before .before .before .before .before .before .args .stop) _ _ (c .before .before .before .before .before .before .before .before .before .before .pre .0) (c .before .before .before .before .before .before .before .header-len .ensures .0) (c .before .before .before .before .before .before .before .before .size-width .ensures .0) (ap judgedAnswer (sym (c .before .before .before .before .enum-told .given .1)) ∙ c .before .before .before .before .before .before .judge-data .ensures) (c .before .before .before .before .before .before .before .before .before .before .pre .1)
+part-fault-in-start c =
+    let a = c .before .before .before .before .before .before .before .before .before .before .args in
+    let pre = c .before .before .before .before .before .before .before .before .before .before .pre in
+    let header-len = c .before .before .before .before .before .before .before .header-len in
+    let size-width = c .before .before .before .before .before .before .before .before .size-width in
+    let enum-told = c .before .before .before .before .enum-told in
+    let judge-data = c .before .before .before .before .before .before .judge-data in
+    long-enough (a .header) (a .content .now) (a .stop) _ _ (pre .0) (header-len .ensures .0) (size-width .ensures .0)
+    (ap judgedAnswer (sym (enum-told .given .1)) ∙ judge-data .ensures) (pre .1)
 
 part-fault-in-end : tie.Need-part-fault-in-end
 part-fault-in-end c = search needs
@@ -73,7 +113,15 @@ part-read-be-start : tie.Need-part-read-be-start
 part-read-be-start c = search needs
 
 part-read-be-end : tie.Need-part-read-be-end
-part-read-be-end c = omega (arith, long-enough (c .before .before .before .before .before .before .before .before .before .before .before .before .before .before .before .args .header) (c .before .before .before .before .before .before .before .before .before .before .before .before .before .before .before .args .content .now) (c .before .before .before .before .before .before .before .before .before .before .before .before .before .before .before .args .stop) _ _ (c .before .before .before .before .before .before .before .before .before .before .before .before .before .before .before .pre .0) (c .before .before .before .before .before .before .before .before .before .before .before .before .header-len .ensures .0) (c .before .before .before .before .before .before .before .before .before .before .before .before .before .size-width .ensures .0) (ap judgedAnswer (sym (c .before .before .before .before .before .before .before .before .before .enum-told .given .1)) ∙ c .before .before .before .before .before .before .before .before .before .before .before .judge-data .ensures) (c .before .before .before .before .before .before .before .before .before .before .before .before .before .before .before .pre .1))
+part-read-be-end c =
+    let a = c .before .before .before .before .before .before .before .before .before .before .before .before .before .before .before .args in
+    let pre = c .before .before .before .before .before .before .before .before .before .before .before .before .before .before .before .pre in
+    let header-len = c .before .before .before .before .before .before .before .before .before .before .before .before .header-len in
+    let size-width = c .before .before .before .before .before .before .before .before .before .before .before .before .before .size-width in
+    let enum-told = c .before .before .before .before .before .before .before .before .before .enum-told in
+    let judge-data = c .before .before .before .before .before .before .before .before .before .before .before .judge-data in
+    omega
+    (arith, long-enough (a .header) (a .content .now) (a .stop) _ _ (pre .0) (header-len .ensures .0) (size-width .ensures .0) (ap judgedAnswer (sym (enum-told .given .1)) ∙ judge-data .ensures) (pre .1))
 
 read-be-requires : tie.Need-read-be-requires
 read-be-requires c κs = search needs
@@ -88,16 +136,52 @@ part-read-size-start : tie.Need-part-read-size-start
 part-read-size-start c = search needs
 
 part-read-size-end : tie.Need-part-read-size-end
-part-read-size-end c = long-enough (c .before .before .before .before .before .before .before .before .before .before .before .before .before .before .before .before .before .args .header) (c .before .before .before .before .before .before .before .before .before .before .before .before .before .before .before .before .before .args .content .now) (c .before .before .before .before .before .before .before .before .before .before .before .before .before .before .before .before .before .args .stop) _ _ (c .before .before .before .before .before .before .before .before .before .before .before .before .before .before .before .before .before .pre .0) (c .before .before .before .before .before .before .before .before .before .before .before .before .before .before .header-len .ensures .0) (c .before .before .before .before .before .before .before .before .before .before .before .before .before .before .before .size-width .ensures .0) (ap judgedAnswer (sym (c .before .before .before .before .before .before .before .before .before .before .before .enum-told .given .1)) ∙ c .before .before .before .before .before .before .before .before .before .before .before .before .before .judge-data .ensures) (c .before .before .before .before .before .before .before .before .before .before .before .before .before .before .before .before .before .pre .1)
+part-read-size-end c =
+    let a = c .before .before .before .before .before .before .before .before .before .before .before .before .before .before .before .before .before .args in
+    let pre = c .before .before .before .before .before .before .before .before .before .before .before .before .before .before .before .before .before .pre in
+    let header-len = c .before .before .before .before .before .before .before .before .before .before .before .before .before .before .header-len in
+    let size-width = c .before .before .before .before .before .before .before .before .before .before .before .before .before .before .before .size-width in
+    let enum-told = c .before .before .before .before .before .before .before .before .before .before .before .enum-told in
+    let judge-data = c .before .before .before .before .before .before .before .before .before .before .before .before .before .judge-data in
+    long-enough (a .header) (a .content .now) (a .stop) _ _ (pre .0) (header-len .ensures .0) (size-width .ensures .0)
+    (ap judgedAnswer (sym (enum-told .given .1)) ∙ judge-data .ensures) (pre .1)
 
 read-size-requires : tie.Need-read-size-requires
 read-size-requires c κs = search needs
 
 returns-3 : tie.Need-returns-3
-returns-3 c = eof-other (c .before .before .before .before .before .before .before .before .before .before .before .before .before .before .before .args .header) (c .before .before .before .before .before .before .before .before .before .before .before .before .before .before .before .args .content .now) (c .before .before .before .before .before .before .before .before .before .before .before .before .before .before .before .args .stop) _ _ (c .before .before .before .before .before .before .before .before .before .before .before .before .before .before .before .pre .0) (c .before .before .before .before .before .before .before .before .before .before .before .before .header-len .ensures .0) (c .before .before .before .before .before .before .before .before .before .before .before .before .before .size-width .ensures .0) (ap judgedAnswer (sym (c .before .before .before .before .before .before .before .before .before .enum-told .given .1)) ∙ c .before .before .before .before .before .before .before .before .before .before .before .judge-data .ensures) (ap judgedAnswer (sym (c .before .before .before .before .before .enum-told2 .given .1)) ∙ c .before .before .before .before .before .before .before .judge-condition .ensures) _ (ap faultAnswer (sym (c .before .found .given .1)) ∙ c .before .before .before .fault-in .ensures)
+returns-3 c =
+    let a = c .before .before .before .before .before .before .before .before .before .before .before .before .before .before .before .args in
+    let pre = c .before .before .before .before .before .before .before .before .before .before .before .before .before .before .before .pre in
+    let header-len = c .before .before .before .before .before .before .before .before .before .before .before .before .header-len in
+    let size-width = c .before .before .before .before .before .before .before .before .before .before .before .before .before .size-width in
+    let enum-told = c .before .before .before .before .before .before .before .before .before .enum-told in
+    let judge-data = c .before .before .before .before .before .before .before .before .before .before .before .judge-data in
+    let enum-told2 = c .before .before .before .before .before .enum-told2 in
+    let judge-condition = c .before .before .before .before .before .before .before .judge-condition in
+    let fault-in = c .before .before .before .fault-in in
+    eof-other (a .header) (a .content .now) (a .stop) _ _ (pre .0) (header-len .ensures .0) (size-width .ensures .0)
+    (ap judgedAnswer (sym (enum-told .given .1)) ∙ judge-data .ensures)
+    (ap judgedAnswer (sym (enum-told2 .given .1)) ∙ judge-condition .ensures) _
+    (ap faultAnswer (sym (c .before .found .given .1)) ∙ fault-in .ensures)
 
 returns-4 : tie.Need-returns-4
-returns-4 c = eof-read (c .before .before .before .before .before .before .before .before .before .before .before .before .before .before .before .before .before .before .before .args .header) (c .before .before .before .before .before .before .before .before .before .before .before .before .before .before .before .before .before .before .before .args .content .now) (c .before .before .before .before .before .before .before .before .before .before .before .before .before .before .before .before .before .before .before .args .stop) _ _ (c .before .before .before .before .before .before .before .before .before .before .before .before .before .before .before .before .before .before .before .pre .0) (c .before .before .before .before .before .before .before .before .before .before .before .before .before .before .before .before .header-len .ensures .0) (c .before .before .before .before .before .before .before .before .before .before .before .before .before .before .before .before .before .size-width .ensures .0) (ap judgedAnswer (sym (c .before .before .before .before .before .before .before .before .before .before .before .before .before .enum-told .given .1)) ∙ c .before .before .before .before .before .before .before .before .before .before .before .before .before .before .before .judge-data .ensures) (ap judgedAnswer (sym (c .before .before .before .before .before .before .before .before .before .enum-told2 .given .1)) ∙ c .before .before .before .before .before .before .before .before .before .before .before .judge-condition .ensures) _ _ _ (c .before .before .before .before .before .before .before .before .before .before .before .before .before .before .before .before .before .before .before .pre .1) (c .before .before .read-be .ensures .0) (c .read-size .ensures) (ap faultAnswer (sym (c .before .before .before .before .before .found2 .given .1)) ∙ c .before .before .before .before .before .before .before .fault-in .ensures)
+returns-4 c =
+    let a = c .before .before .before .before .before .before .before .before .before .before .before .before .before .before .before .before .before .before .before .args in
+    let pre = c .before .before .before .before .before .before .before .before .before .before .before .before .before .before .before .before .before .before .before .pre in
+    let header-len = c .before .before .before .before .before .before .before .before .before .before .before .before .before .before .before .before .header-len in
+    let size-width = c .before .before .before .before .before .before .before .before .before .before .before .before .before .before .before .before .before .size-width in
+    let enum-told = c .before .before .before .before .before .before .before .before .before .before .before .before .before .enum-told in
+    let judge-data = c .before .before .before .before .before .before .before .before .before .before .before .before .before .before .before .judge-data in
+    let enum-told2 = c .before .before .before .before .before .before .before .before .before .enum-told2 in
+    let judge-condition = c .before .before .before .before .before .before .before .before .before .before .before .judge-condition in
+    let read-be = c .before .before .read-be in
+    let found2 = c .before .before .before .before .before .found2 in
+    let fault-in = c .before .before .before .before .before .before .before .fault-in in
+    eof-read (a .header) (a .content .now) (a .stop) _ _ (pre .0) (header-len .ensures .0) (size-width .ensures .0)
+    (ap judgedAnswer (sym (enum-told .given .1)) ∙ judge-data .ensures)
+    (ap judgedAnswer (sym (enum-told2 .given .1)) ∙ judge-condition .ensures) _ _ _ (pre .1) (read-be .ensures .0) (c .read-size .ensures)
+    (ap faultAnswer (sym (found2 .given .1)) ∙ fault-in .ensures)
 
 pub eof-in-spec : {M : Type 1} → statement M
 eof-in-spec =

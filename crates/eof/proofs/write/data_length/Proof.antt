@@ -44,10 +44,19 @@ cast-t15 : tie.Need-cast-t15
 cast-t15 c = search needs
 
 returns : tie.Need-returns
-returns c = no-length (c .before .before .before .before .before .args .eof) _ (ap judgedAnswer (sym (c .before .judged .given .1)) ∙ c .before .before .before .judge-own .ensures)
+returns c =
+    let a = c .before .before .before .before .before .args in
+    let judge-own = c .before .before .before .judge-own in
+    no-length (a .eof) _ (ap judgedAnswer (sym (c .before .judged .given .1)) ∙ judge-own .ensures)
 
 returns-2 : tie.Need-returns-2
-returns-2 c = has-length (c .before .before .before .before .before .before .before .args .eof) _ _ _ (ap judgedAnswer (sym (c .before .before .before .enum-told .given .1)) ∙ c .before .before .before .before .before .judge-own .ensures) (c .before .before .size-width .ensures .0) (c .before .len .ensures .0) (c .bit .ensures .0)
+returns-2 c =
+    let a = c .before .before .before .before .before .before .before .args in
+    let enum-told = c .before .before .before .enum-told in
+    let judge-own = c .before .before .before .before .before .judge-own in
+    let size-width = c .before .before .size-width in
+    has-length (a .eof) _ _ _ (ap judgedAnswer (sym (enum-told .given .1)) ∙ judge-own .ensures) (size-width .ensures .0)
+    (c .before .len .ensures .0) (c .bit .ensures .0)
 
 pub data-length-spec : {M : Type 1} → statement M
 data-length-spec =

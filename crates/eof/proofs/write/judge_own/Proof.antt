@@ -14,7 +14,10 @@ enum-known-condition : tie.Need-enum-known-condition
 enum-known-condition c = search needs
 
 returns : tie.Need-returns
-returns c = bad-condition (c .before .before .before .before .before .args .eof) _ (ap judgedAnswer (sym (c .before .condition .given .1)) ∙ c .before .before .before .judge-condition .ensures)
+returns c =
+    let a = c .before .before .before .before .before .args in
+    let judge-condition = c .before .before .before .judge-condition in
+    bad-condition (a .eof) _ (ap judgedAnswer (sym (c .before .condition .given .1)) ∙ judge-condition .ensures)
 
 enum-told : tie.Need-enum-told
 enum-told c = search needs
@@ -26,7 +29,13 @@ enum-known-size : tie.Need-enum-known-size
 enum-known-size c = search needs
 
 returns-2 : tie.Need-returns-2
-returns-2 c = bad-size (c .before .before .before .before .before .before .before .before .args .eof) (ap judgedAnswer (sym (c .before .before .before .before .enum-told .given .1)) ∙ c .before .before .before .before .before .before .judge-condition .ensures) _ (ap judgedAnswer (sym (c .before .size .given .1)) ∙ c .before .before .before .judge-file-size .ensures)
+returns-2 c =
+    let a = c .before .before .before .before .before .before .before .before .args in
+    let enum-told = c .before .before .before .before .enum-told in
+    let judge-condition = c .before .before .before .before .before .before .judge-condition in
+    let judge-file-size = c .before .before .before .judge-file-size in
+    bad-size (a .eof) (ap judgedAnswer (sym (enum-told .given .1)) ∙ judge-condition .ensures) _
+    (ap judgedAnswer (sym (c .before .size .given .1)) ∙ judge-file-size .ensures)
 
 enum-told-2 : tie.Need-enum-told-2
 enum-told-2 c = search needs
@@ -35,7 +44,14 @@ judged-requires : tie.Need-judged-requires
 judged-requires c κs = search needs
 
 returns-3 : tie.Need-returns-3
-returns-3 c = c .judged .ensures ∙ fault-decides (c .before .before .before .before .before .before .before .before .args .eof) (ap judgedAnswer (sym (c .before .before .before .before .enum-told .given .1)) ∙ c .before .before .before .before .before .before .judge-condition .ensures) (ap judgedAnswer (sym (c .before .enum-told2 .given .1)) ∙ c .before .before .before .judge-file-size .ensures)
+returns-3 c =
+    let a = c .before .before .before .before .before .before .before .before .args in
+    let enum-told = c .before .before .before .before .enum-told in
+    let judge-condition = c .before .before .before .before .before .before .judge-condition in
+    let judge-file-size = c .before .before .before .judge-file-size in
+    c .judged .ensures
+    ∙ fault-decides (a .eof) (ap judgedAnswer (sym (enum-told .given .1)) ∙ judge-condition .ensures)
+    (ap judgedAnswer (sym (c .before .enum-told2 .given .1)) ∙ judge-file-size .ensures)
 
 pub judge-own-spec : {M : Type 1} → statement M
 judge-own-spec =

@@ -46,13 +46,37 @@ write-size-requires : tie.Need-write-size-requires
 write-size-requires c κs = search needs
 
 put-requires : tie.Need-put-requires
-put-requires c κs = fault-goes (c .before .before .before .before .before .before .before .before .before .before .before .before .before .before .args .eof) (c .before .before .before .before .before .before .before .before .before .before .before .before .before .before .args .at) _ (c .before .before .before .before .before .before .before .before .before .before .before .before .before .before .args .buf .now) _ _ (c .before .before .before .before .before .before .before .before .before .before .before .before .before .before .pre .0) (c .before .before .before .before .before .before .before .before .before .before .before .before .before .before .pre .1) (c .before .before .before .before .before .before .before .before .before .before .before .size-width .ensures .0) (omega arith) (c .before .before .before .before .before .before .before .write-be .ensures) (c .before .before .before .write-size .ensures)
+put-requires c κs =
+    let a = c .before .before .before .before .before .before .before .before .before .before .before .before .before .before .args in
+    let pre = c .before .before .before .before .before .before .before .before .before .before .before .before .before .before .pre in
+    let size-width = c .before .before .before .before .before .before .before .before .before .before .before .size-width in
+    let write-be = c .before .before .before .before .before .before .before .write-be in
+    let write-size = c .before .before .before .write-size in
+    fault-goes (a .eof) (a .at) _ (a .buf .now) _ _ (pre .0) (pre .1) (size-width .ensures .0) (omega arith) (write-be .ensures) (write-size .ensures)
 
 same-length : tie.Need-same-length
-same-length c = ap length (data-stored (c .before .before .before .before .before .before .before .before .before .before .before .before .before .before .before .before .before .args .eof) (c .before .before .before .before .before .before .before .before .before .before .before .before .before .before .before .before .before .args .at) _ (c .before .before .before .before .before .before .before .before .before .before .before .before .before .before .before .before .before .args .buf .now) _ _ (c .before .before .before .before .before .before .before .before .before .before .before .before .before .before .before .before .before .pre .0) (c .before .before .before .before .before .before .before .before .before .before .before .before .before .before .before .before .before .pre .1) (c .before .before .before .before .before .before .before .before .before .before .before .before .before .before .size-width .ensures .0) (omega arith) (c .before .before .before .before .before .before .before .before .before .before .write-be .ensures) (c .before .before .before .before .before .before .write-size .ensures) _ (c .before .before .put .ensures)) ∙ length-sets (c .before .before .before .before .before .before .before .before .before .before .before .before .before .before .before .before .before .args .buf .now) (c .before .before .before .before .before .before .before .before .before .before .before .before .before .before .before .before .before .args .at) (eofData (c .before .before .before .before .before .before .before .before .before .before .before .before .before .before .before .before .before .args .eof))
+same-length c =
+    let a = c .before .before .before .before .before .before .before .before .before .before .before .before .before .before .before .before .before .args in
+    let pre = c .before .before .before .before .before .before .before .before .before .before .before .before .before .before .before .before .before .pre in
+    let size-width = c .before .before .before .before .before .before .before .before .before .before .before .before .before .before .size-width in
+    let write-be = c .before .before .before .before .before .before .before .before .before .before .write-be in
+    let write-size = c .before .before .before .before .before .before .write-size in
+    let put = c .before .before .put in
+    ap length
+    (data-stored (a .eof) (a .at) _ (a .buf .now) _ _ (pre .0) (pre .1) (size-width .ensures .0) (omega arith) (write-be .ensures)
+    (write-size .ensures) _ (put .ensures))
+    ∙ length-sets (a .buf .now) (a .at) (eofData (a .eof))
 
 returns : tie.Need-returns
-returns c = data-stored (c .before .before .before .before .before .before .before .before .before .before .before .before .before .before .before .before .before .args .eof) (c .before .before .before .before .before .before .before .before .before .before .before .before .before .before .before .before .before .args .at) _ (c .before .before .before .before .before .before .before .before .before .before .before .before .before .before .before .before .before .args .buf .now) _ _ (c .before .before .before .before .before .before .before .before .before .before .before .before .before .before .before .before .before .pre .0) (c .before .before .before .before .before .before .before .before .before .before .before .before .before .before .before .before .before .pre .1) (c .before .before .before .before .before .before .before .before .before .before .before .before .before .before .size-width .ensures .0) (omega arith) (c .before .before .before .before .before .before .before .before .before .before .write-be .ensures) (c .before .before .before .before .before .before .write-size .ensures) _ (c .before .before .put .ensures)
+returns c =
+    let a = c .before .before .before .before .before .before .before .before .before .before .before .before .before .before .before .before .before .args in
+    let pre = c .before .before .before .before .before .before .before .before .before .before .before .before .before .before .before .before .before .pre in
+    let size-width = c .before .before .before .before .before .before .before .before .before .before .before .before .before .before .size-width in
+    let write-be = c .before .before .before .before .before .before .before .before .before .before .write-be in
+    let write-size = c .before .before .before .before .before .before .write-size in
+    let put = c .before .before .put in
+    data-stored (a .eof) (a .at) _ (a .buf .now) _ _ (pre .0) (pre .1) (size-width .ensures .0) (omega arith) (write-be .ensures)
+    (write-size .ensures) _ (put .ensures)
 
 pub put-data-spec : {M : Type 1} → statement M
 put-data-spec =

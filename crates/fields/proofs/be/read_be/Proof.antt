@@ -14,7 +14,8 @@ lies-in-requires c κs = search needs
 
 returns : tie.Need-returns
 returns c =
-    (read-none _ _ _ (sym (c .before .lies-in .ensures) ∙ not-true _ (c .if1 .taken)), one-le-pow (c .before .before .before .args .width) 256 (omega arith))
+    let a = c .before .before .before .args in
+    (read-none _ _ _ (sym (c .before .lies-in .ensures) ∙ not-true _ (c .if1 .taken)), one-le-pow (a .width) 256 (omega arith))
 
 number-at-requires : tie.Need-number-at-requires
 number-at-requires c κs =

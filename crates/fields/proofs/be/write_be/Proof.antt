@@ -19,7 +19,9 @@ fits-requires c κs = search needs
 
 returns-2 : tie.Need-returns-2
 returns-2 c =
-    put-nothing _ _ _ _ (sym (c .before .before .before .lies-in .ensures) ∙ not-false _ (c .before .before .if1 .left)) (sym (c .before .fits2 .ensures) ∙ not-true _ (c .if2 .taken))
+    let lies-in = c .before .before .before .lies-in in
+    let if1 = c .before .before .if1 in
+    put-nothing _ _ _ _ (sym (lies-in .ensures) ∙ not-false _ (if1 .left)) (sym (c .before .fits2 .ensures) ∙ not-true _ (c .if2 .taken))
 
 put-number-requires : tie.Need-put-number-requires
 put-number-requires c κs =
@@ -30,9 +32,11 @@ same-length c = search needs
 
 returns-3 : tie.Need-returns-3
 returns-3 c =
+    let put-number = c .before .before .put-number in
     let b = c .before .before .before .before in
-    c .before .before .put-number .ensures
-    ∙ put-some _ _ _ _ (sym (b .before .before .before .lies-in .ensures) ∙ not-false _ (b .before .before .if1 .left)) (sym (b .before .fits2 .ensures) ∙ not-false _ (b .if2 .left))
+    put-number .ensures
+    ∙ put-some _ _ _ _ (sym (b .before .before .before .lies-in .ensures) ∙ not-false _ (b .before .before .if1 .left))
+    (sym (b .before .fits2 .ensures) ∙ not-false _ (b .if2 .left))
 
 pub write-be-spec : {M : Type 1} → statement M
 write-be-spec =

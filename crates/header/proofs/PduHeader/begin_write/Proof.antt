@@ -17,7 +17,10 @@ enum-known-answer-2 : tie.Need-enum-known-answer-2
 enum-known-answer-2 c = search needs
 
 put-header-requires : tie.Need-put-header-requires
-put-header-requires c κs = storable _ _ _ _ (ap lengthAnswer (sym (c .before .before .answer2 .given .1)) ∙ c .before .before .before .before .judge-write .ensures)
+put-header-requires c κs =
+    let answer2 = c .before .before .answer2 in
+    let judge-write = c .before .before .before .before .judge-write in
+    storable _ _ _ _ (ap lengthAnswer (sym (answer2 .given .1)) ∙ judge-write .ensures)
 
 returns : tie.Need-returns
 returns c = nothing-begun _ _ _ _ (ap lengthAnswer (sym (c .before .answer .given .1)) ∙ c .before .before .before .judge-write .ensures)
@@ -26,7 +29,11 @@ same-length : tie.Need-same-length
 same-length c = search needs
 
 returns-2 : tie.Need-returns-2
-returns-2 c = header-begun _ _ _ _ _ (ap lengthAnswer (sym (c .before .before .before .before .before .answer2 .given .1)) ∙ c .before .before .before .before .before .before .before .judge-write .ensures) (c .before .before .put-header .ensures)
+returns-2 c =
+    let answer2 = c .before .before .before .before .before .answer2 in
+    let judge-write = c .before .before .before .before .before .before .before .judge-write in
+    let put-header = c .before .before .put-header in
+    header-begun _ _ _ _ _ (ap lengthAnswer (sym (answer2 .given .1)) ∙ judge-write .ensures) (put-header .ensures)
 
 pub begin-write-spec : {M : Type 1} → statement M
 begin-write-spec =

@@ -16,7 +16,10 @@ returns c = rw (sym (c .before .same-flags .ensures) ∙ not-true _ (c .if1 .tak
 
 returns-2 : tie.Need-returns-2
 unfolding sameHeader
-returns-2 c = rw (sym (c .before .before .before .before .same-flags .ensures) ∙ not-false _ (c .before .before .before .if1 .left), ne-eqb _ _ (c .if2 .taken))
+returns-2 c =
+    let same-flags = c .before .before .before .before .same-flags in
+    let if1 = c .before .before .before .if1 in
+    rw (sym (same-flags .ensures) ∙ not-false _ (if1 .left), ne-eqb _ _ (c .if2 .taken))
 
 eq-requires : tie.Need-eq-requires
 eq-requires c κs = search needs
@@ -24,7 +27,10 @@ eq-requires c κs = search needs
 returns-3 : tie.Need-returns-3
 unfolding sameHeader
 returns-3 c =
-    rw (sym (c .before .before .before .before .before .before .same-flags .ensures) ∙ not-false _ (c .before .before .before .before .before .if1 .left), eq-eqb _ _ (c .before .before .if2 .left), sym (c .before .eq .ensures) ∙ not-true _ (c .if3 .taken))
+    let same-flags = c .before .before .before .before .before .before .same-flags in
+    let if1 = c .before .before .before .before .before .if1 in
+    let if2 = c .before .before .if2 in
+    rw (sym (same-flags .ensures) ∙ not-false _ (if1 .left), eq-eqb _ _ (if2 .left), sym (c .before .eq .ensures) ∙ not-true _ (c .if3 .taken))
 
 eq-requires-2 : tie.Need-eq-requires-2
 eq-requires-2 c κs = search needs
@@ -32,10 +38,15 @@ eq-requires-2 c κs = search needs
 returns-4 : tie.Need-returns-4
 unfolding sameHeader
 returns-4 c =
+    let same-flags = c .before .before .before .before .before .before .before .before .same-flags in
+    let if1 = c .before .before .before .before .before .before .before .if1 in
+    let if2 = c .before .before .before .before .if2 in
+    let eq = c .before .before .before .eq in
+    let if3 = c .before .before .if3 in
     rw (
-      sym (c .before .before .before .before .before .before .before .before .same-flags .ensures) ∙ not-false _ (c .before .before .before .before .before .before .before .if1 .left),
-      eq-eqb _ _ (c .before .before .before .before .if2 .left),
-      sym (c .before .before .before .eq .ensures) ∙ not-false _ (c .before .before .if3 .left),
+      sym (same-flags .ensures) ∙ not-false _ (if1 .left),
+      eq-eqb _ _ (if2 .left),
+      sym (eq .ensures) ∙ not-false _ (if3 .left),
       sym (c .before .eq2 .ensures) ∙ not-true _ (c .if4 .taken),
     )
 
@@ -45,11 +56,17 @@ eq-requires-3 c κs = search needs
 returns-5 : tie.Need-returns-5
 unfolding sameHeader
 returns-5 c =
+    let same-flags = c .before .before .before .before .before .before .before .before .before .same-flags in
+    let if1 = c .before .before .before .before .before .before .before .before .if1 in
+    let if2 = c .before .before .before .before .before .if2 in
+    let eq = c .before .before .before .before .eq in
+    let if3 = c .before .before .before .if3 in
+    let eq2 = c .before .before .eq2 in
     rw (
-      sym (c .before .before .before .before .before .before .before .before .before .same-flags .ensures) ∙ not-false _ (c .before .before .before .before .before .before .before .before .if1 .left),
-      eq-eqb _ _ (c .before .before .before .before .before .if2 .left),
-      sym (c .before .before .before .before .eq .ensures) ∙ not-false _ (c .before .before .before .if3 .left),
-      sym (c .before .before .eq2 .ensures) ∙ not-false _ (c .before .if4 .left),
+      sym (same-flags .ensures) ∙ not-false _ (if1 .left),
+      eq-eqb _ _ (if2 .left),
+      sym (eq .ensures) ∙ not-false _ (if3 .left),
+      sym (eq2 .ensures) ∙ not-false _ (c .before .if4 .left),
     ) (c .eq3 .ensures)
 
 pub eq-spec : {M : Type 1} → statement M

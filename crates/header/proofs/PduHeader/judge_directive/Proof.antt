@@ -14,7 +14,10 @@ enum-known-least : tie.Need-enum-known-least
 enum-known-least c = search needs
 
 returns : tie.Need-returns
-returns c = least-short (c .before .before .before .before .args .self) (c .before .before .before .before .args .stop) _ refl _ (ap judgedAnswer (sym (c .before .least .given .1)) ∙ c .before .before .before .judge-data .ensures)
+returns c =
+    let a = c .before .before .before .before .args in
+    let judge-data = c .before .before .before .judge-data in
+    least-short (a .self) (a .stop) _ refl _ (ap judgedAnswer (sym (c .before .least .given .1)) ∙ judge-data .ensures)
 
 enum-told : tie.Need-enum-told
 enum-told c = search needs
@@ -26,7 +29,13 @@ enum-known-directive : tie.Need-enum-known-directive
 enum-known-directive c = search needs
 
 returns-2 : tie.Need-returns-2
-returns-2 c = no-directive (c .before .before .before .before .before .before .before .args .self) (c .before .before .before .before .before .before .before .args .stop) _ refl (ap judgedAnswer (sym (c .before .before .before .before .enum-told .given .1)) ∙ c .before .before .before .before .before .before .judge-data .ensures) _ (ap judgedAnswer (sym (c .before .directive .given .1)) ∙ c .before .before .before .judge-type .ensures)
+returns-2 c =
+    let a = c .before .before .before .before .before .before .before .args in
+    let enum-told = c .before .before .before .before .enum-told in
+    let judge-data = c .before .before .before .before .before .before .judge-data in
+    let judge-type = c .before .before .before .judge-type in
+    no-directive (a .self) (a .stop) _ refl (ap judgedAnswer (sym (enum-told .given .1)) ∙ judge-data .ensures) _
+    (ap judgedAnswer (sym (c .before .directive .given .1)) ∙ judge-type .ensures)
 
 enum-told-2 : tie.Need-enum-told-2
 enum-told-2 c = search needs
@@ -44,13 +53,31 @@ enum-known-code : tie.Need-enum-known-code
 enum-known-code c = search needs
 
 returns-3 : tie.Need-returns-3
-returns-3 c = no-code _ _ _ (c .before .before .before .before .header-len .ensures .0) (ap judgedAnswer (sym (c .before .before .before .before .before .before .before .before .enum-told .given .1)) ∙ c .before .before .before .before .before .before .before .before .before .before .judge-data .ensures) (ap judgedAnswer (sym (c .before .before .before .before .before .enum-told2 .given .1)) ∙ c .before .before .before .before .before .before .before .judge-type .ensures) _ (ap judgedAnswer (sym (c .before .code .given .1)) ∙ c .before .before .before .judge-data2 .ensures)
+returns-3 c =
+    let header-len = c .before .before .before .before .header-len in
+    let enum-told = c .before .before .before .before .before .before .before .before .enum-told in
+    let judge-data = c .before .before .before .before .before .before .before .before .before .before .judge-data in
+    let enum-told2 = c .before .before .before .before .before .enum-told2 in
+    let judge-type = c .before .before .before .before .before .before .before .judge-type in
+    let judge-data2 = c .before .before .before .judge-data2 in
+    no-code _ _ _ (header-len .ensures .0) (ap judgedAnswer (sym (enum-told .given .1)) ∙ judge-data .ensures)
+    (ap judgedAnswer (sym (enum-told2 .given .1)) ∙ judge-type .ensures) _
+    (ap judgedAnswer (sym (c .before .code .given .1)) ∙ judge-data2 .ensures)
 
 enum-told-3 : tie.Need-enum-told-3
 enum-told-3 c = search needs
 
 returns-4 : tie.Need-returns-4
-returns-4 c = code-there _ _ _ (c .before .before .before .header-len .ensures .0) (ap judgedAnswer (sym (c .before .before .before .before .before .before .before .enum-told .given .1)) ∙ c .before .before .before .before .before .before .before .before .before .judge-data .ensures) (ap judgedAnswer (sym (c .before .before .before .before .enum-told2 .given .1)) ∙ c .before .before .before .before .before .before .judge-type .ensures) (ap judgedAnswer (sym (c .enum-told3 .given .1)) ∙ c .before .before .judge-data2 .ensures)
+returns-4 c =
+    let header-len = c .before .before .before .header-len in
+    let enum-told = c .before .before .before .before .before .before .before .enum-told in
+    let judge-data = c .before .before .before .before .before .before .before .before .before .judge-data in
+    let enum-told2 = c .before .before .before .before .enum-told2 in
+    let judge-type = c .before .before .before .before .before .before .judge-type in
+    let judge-data2 = c .before .before .judge-data2 in
+    code-there _ _ _ (header-len .ensures .0) (ap judgedAnswer (sym (enum-told .given .1)) ∙ judge-data .ensures)
+    (ap judgedAnswer (sym (enum-told2 .given .1)) ∙ judge-type .ensures)
+    (ap judgedAnswer (sym (c .enum-told3 .given .1)) ∙ judge-data2 .ensures)
 
 pub judge-directive-spec : {M : Type 1} → statement M
 judge-directive-spec =

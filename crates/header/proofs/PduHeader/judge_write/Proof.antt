@@ -25,7 +25,12 @@ enum-known-own : tie.Need-enum-known-own
 enum-known-own c = search needs
 
 returns-2 : tie.Need-returns-2
-returns-2 c = own-refused _ _ (ap judgedAnswer (sym (c .before .before .before .enum-told .given .1)) ∙ c .before .before .before .before .before .judged-directive .ensures) _ ∙ ap (λ (o : DataLength). beginning (c .before .before .before .before .before .before .args .self) (dataAnswer o) (c .before .before .before .before .before .before .args .room)) (sym (c .before .own .given .1))
+returns-2 c =
+    let enum-told = c .before .before .before .enum-told in
+    let judged-directive = c .before .before .before .before .before .judged-directive in
+    let a = c .before .before .before .before .before .before .args in
+    own-refused _ _ (ap judgedAnswer (sym (enum-told .given .1)) ∙ judged-directive .ensures) _
+    ∙ ap (λ (o : DataLength). beginning (a .self) (dataAnswer o) (a .room)) (sym (c .before .own .given .1))
 
 enum-told-2 : tie.Need-enum-told-2
 enum-told-2 c = search needs
@@ -43,10 +48,28 @@ enum-told-3 : tie.Need-enum-told-3
 enum-told-3 c = search needs
 
 returns-3 : tie.Need-returns-3
-returns-3 c = no-room-for _ _ (ap judgedAnswer (sym (c .before .before .before .before .before .before .before .enum-told .given .1)) ∙ c .before .before .before .before .before .before .before .before .before .judged-directive .ensures) _ _ (c .before .before .before .before .pdu-len .ensures .0) _ (ap judgedAnswer (sym (c .before .room-for .given .1)) ∙ c .before .before .before .judge-room .ensures) ∙ ap (λ (o : DataLength). beginning (c .before .before .before .before .before .before .before .before .before .before .args .self) (dataAnswer o) (c .before .before .before .before .before .before .before .before .before .before .args .room)) (sym (c .before .before .before .before .before .enum-told2 .given .1))
+returns-3 c =
+    let enum-told = c .before .before .before .before .before .before .before .enum-told in
+    let judged-directive = c .before .before .before .before .before .before .before .before .before .judged-directive in
+    let pdu-len = c .before .before .before .before .pdu-len in
+    let judge-room = c .before .before .before .judge-room in
+    let a = c .before .before .before .before .before .before .before .before .before .before .args in
+    let enum-told2 = c .before .before .before .before .before .enum-told2 in
+    no-room-for _ _ (ap judgedAnswer (sym (enum-told .given .1)) ∙ judged-directive .ensures) _ _ (pdu-len .ensures .0) _
+    (ap judgedAnswer (sym (c .before .room-for .given .1)) ∙ judge-room .ensures)
+    ∙ ap (λ (o : DataLength). beginning (a .self) (dataAnswer o) (a .room)) (sym (enum-told2 .given .1))
 
 returns-4 : tie.Need-returns-4
-returns-4 c = room-for _ _ (ap judgedAnswer (sym (c .before .before .before .before .before .before .enum-told .given .1)) ∙ c .before .before .before .before .before .before .before .before .judged-directive .ensures) _ _ (c .before .before .before .pdu-len .ensures .0) (ap judgedAnswer (sym (c .enum-told3 .given .1)) ∙ c .before .before .judge-room .ensures) ∙ ap (λ (o : DataLength). beginning (c .before .before .before .before .before .before .before .before .before .args .self) (dataAnswer o) (c .before .before .before .before .before .before .before .before .before .args .room)) (sym (c .before .before .before .before .enum-told2 .given .1))
+returns-4 c =
+    let enum-told = c .before .before .before .before .before .before .enum-told in
+    let judged-directive = c .before .before .before .before .before .before .before .before .judged-directive in
+    let pdu-len = c .before .before .before .pdu-len in
+    let judge-room = c .before .before .judge-room in
+    let a = c .before .before .before .before .before .before .before .before .before .args in
+    let enum-told2 = c .before .before .before .before .enum-told2 in
+    room-for _ _ (ap judgedAnswer (sym (enum-told .given .1)) ∙ judged-directive .ensures) _ _ (pdu-len .ensures .0)
+    (ap judgedAnswer (sym (c .enum-told3 .given .1)) ∙ judge-room .ensures)
+    ∙ ap (λ (o : DataLength). beginning (a .self) (dataAnswer o) (a .room)) (sym (enum-told2 .given .1))
 
 pub judge-write-spec : {M : Type 1} → statement M
 judge-write-spec =

@@ -40,7 +40,17 @@ too-large-requires : tie.Need-too-large-requires
 too-large-requires c κs = search needs
 
 returns-2 : tie.Need-returns-2
-returns-2 c = let w = passed (widthTests (c .before .before .before .before .before .before .before .before .before .args .self .width) (c .before .before .before .before .before .before .before .before .before .args .self .sequence .0 .width)) tt tt (ap judgedAnswer (sym (c .before .before .before .enum-told .given .1)) ∙ c .before .before .before .before .before .judge-widths .ensures) .0 in ap (λ r. headerAnswer (Refused r)) (c .too-large .ensures) ∙ ap (λ (f : UnsignedByteField). told (14 ∷ f .value ∷ f .width ∷ [])) (c .before .before .before .before .before .before .before .before .source-id .ensures) ∙ large-source _ w (ap fitsField (sym (c .before .before .before .before .before .before .before .before .source-id .ensures)) ∙ sym (c .before .before .fits2 .ensures) ∙ not-true _ (c .before .if1 .taken))
+returns-2 c =
+    let a = c .before .before .before .before .before .before .before .before .before .args in
+    let enum-told = c .before .before .before .enum-told in
+    let judge-widths = c .before .before .before .before .before .judge-widths in
+    let source-id = c .before .before .before .before .before .before .before .before .source-id in
+    let fits2 = c .before .before .fits2 in
+    let w = passed (widthTests (a .self .width) (a .self .sequence .0 .width)) tt tt
+    (ap judgedAnswer (sym (enum-told .given .1)) ∙ judge-widths .ensures) .0 in
+    ap (λ r. headerAnswer (Refused r)) (c .too-large .ensures)
+    ∙ ap (λ (f : UnsignedByteField). told (14 ∷ f .value ∷ f .width ∷ [])) (source-id .ensures)
+    ∙ large-source _ w (ap fitsField (sym (source-id .ensures)) ∙ sym (fits2 .ensures) ∙ not-true _ (c .before .if1 .taken))
 
 fits-requires-2 : tie.Need-fits-requires-2
 fits-requires-2 c κs = search needs
@@ -49,7 +59,19 @@ too-large-requires-2 : tie.Need-too-large-requires-2
 too-large-requires-2 c κs = search needs
 
 returns-3 : tie.Need-returns-3
-returns-3 c = let w = passed (widthTests (c .before .before .before .before .before .before .before .before .before .before .before .args .self .width) (c .before .before .before .before .before .before .before .before .before .before .before .args .self .sequence .0 .width)) tt tt (ap judgedAnswer (sym (c .before .before .before .before .before .enum-told .given .1)) ∙ c .before .before .before .before .before .before .before .judge-widths .ensures) .0 in ap (λ r. headerAnswer (Refused r)) (c .too-large2 .ensures) ∙ large-sequence _ w (ap fitsField (sym (c .before .before .before .before .before .before .before .before .before .before .source-id .ensures)) ∙ sym (c .before .before .before .before .fits2 .ensures) ∙ not-false _ (c .before .before .before .if1 .left)) (sym (c .before .before .fits3 .ensures) ∙ not-true _ (c .before .if2 .taken))
+returns-3 c =
+    let a = c .before .before .before .before .before .before .before .before .before .before .before .args in
+    let enum-told = c .before .before .before .before .before .enum-told in
+    let judge-widths = c .before .before .before .before .before .before .before .judge-widths in
+    let source-id = c .before .before .before .before .before .before .before .before .before .before .source-id in
+    let fits2 = c .before .before .before .before .fits2 in
+    let if1 = c .before .before .before .if1 in
+    let fits3 = c .before .before .fits3 in
+    let w = passed (widthTests (a .self .width) (a .self .sequence .0 .width)) tt tt
+    (ap judgedAnswer (sym (enum-told .given .1)) ∙ judge-widths .ensures) .0 in
+    ap (λ r. headerAnswer (Refused r)) (c .too-large2 .ensures)
+    ∙ large-sequence _ w (ap fitsField (sym (source-id .ensures)) ∙ sym (fits2 .ensures) ∙ not-false _ (if1 .left))
+    (sym (fits3 .ensures) ∙ not-true _ (c .before .if2 .taken))
 
 fits-requires-3 : tie.Need-fits-requires-3
 fits-requires-3 c κs = search needs
@@ -58,10 +80,41 @@ too-large-requires-3 : tie.Need-too-large-requires-3
 too-large-requires-3 c κs = search needs
 
 returns-4 : tie.Need-returns-4
-returns-4 c = let w = passed (widthTests (c .before .before .before .before .before .before .before .before .before .before .before .before .before .args .self .width) (c .before .before .before .before .before .before .before .before .before .before .before .before .before .args .self .sequence .0 .width)) tt tt (ap judgedAnswer (sym (c .before .before .before .before .before .before .before .enum-told .given .1)) ∙ c .before .before .before .before .before .before .before .before .before .judge-widths .ensures) .0 in ap (λ r. headerAnswer (Refused r)) (c .too-large3 .ensures) ∙ ap (λ (f : UnsignedByteField). told (14 ∷ f .value ∷ f .width ∷ [])) (c .before .before .before .before .before .before .before .before .before .before .dest-id .ensures) ∙ large-destination _ w (ap fitsField (sym (c .before .before .before .before .before .before .before .before .before .before .before .before .source-id .ensures)) ∙ sym (c .before .before .before .before .before .before .fits2 .ensures) ∙ not-false _ (c .before .before .before .before .before .if1 .left)) (sym (c .before .before .before .before .fits3 .ensures) ∙ not-false _ (c .before .before .before .if2 .left)) (ap fitsField (sym (c .before .before .before .before .before .before .before .before .before .before .dest-id .ensures)) ∙ sym (c .before .before .fits4 .ensures) ∙ not-true _ (c .before .if3 .taken))
+returns-4 c =
+    let a = c .before .before .before .before .before .before .before .before .before .before .before .before .before .args in
+    let enum-told = c .before .before .before .before .before .before .before .enum-told in
+    let judge-widths = c .before .before .before .before .before .before .before .before .before .judge-widths in
+    let dest-id = c .before .before .before .before .before .before .before .before .before .before .dest-id in
+    let source-id = c .before .before .before .before .before .before .before .before .before .before .before .before .source-id in
+    let fits2 = c .before .before .before .before .before .before .fits2 in
+    let if1 = c .before .before .before .before .before .if1 in
+    let fits3 = c .before .before .before .before .fits3 in
+    let if2 = c .before .before .before .if2 in
+    let fits4 = c .before .before .fits4 in
+    let w = passed (widthTests (a .self .width) (a .self .sequence .0 .width)) tt tt
+    (ap judgedAnswer (sym (enum-told .given .1)) ∙ judge-widths .ensures) .0 in
+    ap (λ r. headerAnswer (Refused r)) (c .too-large3 .ensures)
+    ∙ ap (λ (f : UnsignedByteField). told (14 ∷ f .value ∷ f .width ∷ [])) (dest-id .ensures)
+    ∙ large-destination _ w (ap fitsField (sym (source-id .ensures)) ∙ sym (fits2 .ensures) ∙ not-false _ (if1 .left))
+    (sym (fits3 .ensures) ∙ not-false _ (if2 .left))
+    (ap fitsField (sym (dest-id .ensures)) ∙ sym (fits4 .ensures) ∙ not-true _ (c .before .if3 .taken))
 
 returns-5 : tie.Need-returns-5
-returns-5 c = let w = passed (widthTests (c .before .before .before .before .before .before .before .before .before .before .before .before .args .self .width) (c .before .before .before .before .before .before .before .before .before .before .before .before .args .self .sequence .0 .width)) tt tt (ap judgedAnswer (sym (c .before .before .before .before .before .before .enum-told .given .1)) ∙ c .before .before .before .before .before .before .before .before .judge-widths .ensures) .0 in all-right _ w (ap fitsField (sym (c .before .before .before .before .before .before .before .before .before .before .before .source-id .ensures)) ∙ sym (c .before .before .before .before .before .fits2 .ensures) ∙ not-false _ (c .before .before .before .before .if1 .left)) (sym (c .before .before .before .fits3 .ensures) ∙ not-false _ (c .before .before .if2 .left)) (ap fitsField (sym (c .before .before .before .before .before .before .before .before .before .dest-id .ensures)) ∙ sym (c .before .fits4 .ensures) ∙ not-false _ (c .if3 .left))
+returns-5 c =
+    let a = c .before .before .before .before .before .before .before .before .before .before .before .before .args in
+    let enum-told = c .before .before .before .before .before .before .enum-told in
+    let judge-widths = c .before .before .before .before .before .before .before .before .judge-widths in
+    let source-id = c .before .before .before .before .before .before .before .before .before .before .before .source-id in
+    let fits2 = c .before .before .before .before .before .fits2 in
+    let if1 = c .before .before .before .before .if1 in
+    let fits3 = c .before .before .before .fits3 in
+    let if2 = c .before .before .if2 in
+    let dest-id = c .before .before .before .before .before .before .before .before .before .dest-id in
+    let w = passed (widthTests (a .self .width) (a .self .sequence .0 .width)) tt tt
+    (ap judgedAnswer (sym (enum-told .given .1)) ∙ judge-widths .ensures) .0 in
+    all-right _ w (ap fitsField (sym (source-id .ensures)) ∙ sym (fits2 .ensures) ∙ not-false _ (if1 .left))
+    (sym (fits3 .ensures) ∙ not-false _ (if2 .left))
+    (ap fitsField (sym (dest-id .ensures)) ∙ sym (c .before .fits4 .ensures) ∙ not-false _ (c .if3 .left))
 
 pub judged-spec : {M : Type 1} → statement M
 judged-spec =

@@ -24,7 +24,9 @@ returns : tie.Need-returns
 returns c = refused-record _ _ (ap headerAnswer (sym (c .before .judged2 .given .1)) ∙ c .before .before .before .judged .ensures)
 
 returns-2 : tie.Need-returns-2
-returns-2 c = c .judge-type .ensures ∙ type-decides _ (passed-tests _ _ (ap headerAnswer (sym (c .before .enum-told .given .1)) ∙ c .before .before .before .judged .ensures))
+returns-2 c =
+    let judged = c .before .before .before .judged in
+    c .judge-type .ensures ∙ type-decides _ (passed-tests _ _ (ap headerAnswer (sym (c .before .enum-told .given .1)) ∙ judged .ensures))
 
 pub judged-directive-spec : {M : Type 1} → statement M
 judged-directive-spec =

@@ -23,7 +23,10 @@ returns : tie.Need-returns
 returns c = refused-building _ _ _ _ (ap headerAnswer (sym (c .before .joined .given .1)) ∙ c .before .before .before .from-fields .ensures)
 
 returns-2 : tie.Need-returns-2
-returns-2 c = c .judged .ensures ∙ joined-building _ _ _ _ (ap headerAnswer (sym (c .before .before .joined2 .given .1)) ∙ c .before .before .before .before .from-fields .ensures)
+returns-2 c =
+    let joined2 = c .before .before .joined2 in
+    let from-fields = c .before .before .before .before .from-fields in
+    c .judged .ensures ∙ joined-building _ _ _ _ (ap headerAnswer (sym (joined2 .given .1)) ∙ from-fields .ensures)
 
 pub new-generic-spec : {M : Type 1} → statement M
 new-generic-spec =

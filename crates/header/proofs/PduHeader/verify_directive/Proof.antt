@@ -21,7 +21,11 @@ short-requires : tie.Need-short-requires
 short-requires c κs = search needs
 
 returns : tie.Need-returns
-returns c = ap lengthAnswer (c .short .ensures) ∙ short-9 _ _ _ (verified _ _ _ (ap lengthAnswer (sym (c .before .before .before .verified2 .given .1)) ∙ c .before .before .before .before .before .verify-read .ensures)) (c .before .if1 .taken)
+returns c =
+    let verified2 = c .before .before .before .verified2 in
+    let verify-read = c .before .before .before .before .before .verify-read in
+    ap lengthAnswer (c .short .ensures)
+    ∙ short-9 _ _ _ (verified _ _ _ (ap lengthAnswer (sym (verified2 .given .1)) ∙ verify-read .ensures)) (c .before .if1 .taken)
 
 judge-directive-requires : tie.Need-judge-directive-requires
 judge-directive-requires c κs = search needs
@@ -30,7 +34,11 @@ returns-2 : tie.Need-returns-2
 returns-2 c = refused-verified _ _ _ (ap lengthAnswer (sym (c .before .verified .given .1)) ∙ c .before .before .before .verify-read .ensures)
 
 returns-3 : tie.Need-returns-3
-returns-3 c = c .judge-directive .ensures ∙ tests-decide _ _ _ (verified _ _ _ (ap lengthAnswer (sym (c .before .before .before .verified2 .given .1)) ∙ c .before .before .before .before .before .verify-read .ensures)) (c .before .if1 .left)
+returns-3 c =
+    let verified2 = c .before .before .before .verified2 in
+    let verify-read = c .before .before .before .before .before .verify-read in
+    c .judge-directive .ensures
+    ∙ tests-decide _ _ _ (verified _ _ _ (ap lengthAnswer (sym (verified2 .given .1)) ∙ verify-read .ensures)) (c .before .if1 .left)
 
 pub verify-directive-spec : {M : Type 1} → statement M
 verify-directive-spec =

@@ -25,7 +25,8 @@ returns c = refused-verify _ _ _ (ap headerAnswer (sym (c .before .judged2 .give
 
 returns-2 : tie.Need-returns-2
 returns-2 c =
-    c .verify-read .ensures ∙ sym (passed-verify _ _ (passed-tests _ _ (ap headerAnswer (sym (c .before .enum-told .given .1)) ∙ c .before .before .before .judged .ensures)))
+    let judged = c .before .before .before .judged in
+    c .verify-read .ensures ∙ sym (passed-verify _ _ (passed-tests _ _ (ap headerAnswer (sym (c .before .enum-told .given .1)) ∙ judged .ensures)))
 
 pub verify-length-and-checksum-spec : {M : Type 1} → statement M
 verify-length-and-checksum-spec =

@@ -28,7 +28,10 @@ enum-told-2 : tie.Need-enum-told-2
 enum-told-2 c = search needs
 
 slice-aggregate-pdu : tie.Need-slice-aggregate-pdu
-slice-aggregate-pdu c = sym (length-take-le (c .before .before .before .before .pdu-len .result) (c .before .before .before .before .before .before .args .buf .now) (omega arith))
+slice-aggregate-pdu c =
+    let pdu-len = c .before .before .before .before .pdu-len in
+    let a = c .before .before .before .before .before .before .args in
+    sym (length-take-le (pdu-len .result) (a .buf .now) (omega arith))
 
 sub-stop : tie.Need-sub-stop
 sub-stop c = omega (arith, at-least _ _ (c .before .before .before .before .pdu-len .ensures .0))
@@ -43,10 +46,20 @@ cast-t13 : tie.Need-cast-t13
 cast-t13 c = search needs
 
 returns-3 : tie.Need-returns-3
-returns-3 c = bad-checksum _ _ _ (c .before .before .before .before .before .before .before .pdu-len .ensures .0) (c .before .before .before .before .before .before .if1 .left) (c .before .before .before .before .enum-told2 .given .1) _ (c .before .before .checksum .ensures) _ (c .before .if2 .taken) (c .read-be .ensures .0)
+returns-3 c =
+    let pdu-len = c .before .before .before .before .before .before .before .pdu-len in
+    let if1 = c .before .before .before .before .before .before .if1 in
+    let enum-told2 = c .before .before .before .before .enum-told2 in
+    let checksum = c .before .before .checksum in
+    bad-checksum _ _ _ (pdu-len .ensures .0) (if1 .left) (enum-told2 .given .1) _ (checksum .ensures) _ (c .before .if2 .taken)
+    (c .read-be .ensures .0)
 
 returns-4 : tie.Need-returns-4
-returns-4 c = good-checksum _ _ _ (c .before .before .before .before .before .before .pdu-len .ensures .0) (c .before .before .before .before .before .if1 .left) (c .before .before .before .enum-told2 .given .1) _ (c .before .checksum .ensures) (c .if2 .left)
+returns-4 c =
+    let pdu-len = c .before .before .before .before .before .before .pdu-len in
+    let if1 = c .before .before .before .before .before .if1 in
+    let enum-told2 = c .before .before .before .enum-told2 in
+    good-checksum _ _ _ (pdu-len .ensures .0) (if1 .left) (enum-told2 .given .1) _ (c .before .checksum .ensures) (c .if2 .left)
 
 pub verify-read-spec : {M : Type 1} → statement M
 verify-read-spec =

@@ -22,7 +22,10 @@ returns c = refused-data _ _ ∙ ap (λ (o : DataLength). withData (dataAnswer o
 
 returns-2 : tie.Need-returns-2
 unfolding withData
-returns-2 c = c .with-datafield-len .ensures ∙ ap (λ (o : DataLength). withData (dataAnswer o) (c .before .before .before .before .args .self)) (sym (c .before .before .own .given .1))
+returns-2 c =
+    let a = c .before .before .before .before .args in
+    let own = c .before .before .own in
+    c .with-datafield-len .ensures ∙ ap (λ (o : DataLength). withData (dataAnswer o) (a .self)) (sym (own .given .1))
 
 pub with-data-spec : {M : Type 1} → statement M
 with-data-spec =

@@ -30,7 +30,10 @@ same-length c = search needs
 
 returns-2 : tie.Need-returns-2
 returns-2 c =
-    accepted-write _ _ _ _ (ap lengthAnswer (sym (c .before .before .before .before .before .answer2 .given .1)) ∙ c .before .before .before .before .before .before .before .writable .ensures) (c .before .before .put-header .ensures)
+    let answer2 = c .before .before .before .before .before .answer2 in
+    let writable = c .before .before .before .before .before .before .before .writable in
+    let put-header = c .before .before .put-header in
+    accepted-write _ _ _ _ (ap lengthAnswer (sym (answer2 .given .1)) ∙ writable .ensures) (put-header .ensures)
 
 pub write-to-slice-spec : {M : Type 1} → statement M
 write-to-slice-spec =

@@ -32,10 +32,22 @@ too-large-requires : tie.Need-too-large-requires
 too-large-requires c κs = search needs
 
 returns-2 : tie.Need-returns-2
-returns-2 c = ap (λ r. told (paper r)) (c .too-large .ensures) ∙ bad-id _ (ap judgedAnswer (sym (c .before .before .before .before .enum-told .given .1)) ∙ c .before .before .before .before .before .before .judge-entity-width .ensures) _ _ (c .before .before .before .new .ensures) (sym (c .before .before .fits2 .ensures) ∙ not-true _ (c .before .if1 .taken))
+returns-2 c =
+    let enum-told = c .before .before .before .before .enum-told in
+    let judge-entity-width = c .before .before .before .before .before .before .judge-entity-width in
+    let new = c .before .before .before .new in
+    let fits2 = c .before .before .fits2 in
+    ap (λ r. told (paper r)) (c .too-large .ensures)
+    ∙ bad-id _ (ap judgedAnswer (sym (enum-told .given .1)) ∙ judge-entity-width .ensures) _ _ (new .ensures)
+    (sym (fits2 .ensures) ∙ not-true _ (c .before .if1 .taken))
 
 returns-3 : tie.Need-returns-3
-returns-3 c = good-id _ (ap judgedAnswer (sym (c .before .before .before .enum-told .given .1)) ∙ c .before .before .before .before .before .judge-entity-width .ensures) _ _ (c .before .before .new .ensures) (sym (c .before .fits2 .ensures) ∙ not-false _ (c .if1 .left))
+returns-3 c =
+    let enum-told = c .before .before .before .enum-told in
+    let judge-entity-width = c .before .before .before .before .before .judge-entity-width in
+    let new = c .before .before .new in
+    good-id _ (ap judgedAnswer (sym (enum-told .given .1)) ∙ judge-entity-width .ensures) _ _ (new .ensures)
+    (sym (c .before .fits2 .ensures) ∙ not-false _ (c .if1 .left))
 
 pub judge-entity-spec : {M : Type 1} → statement M
 judge-entity-spec =

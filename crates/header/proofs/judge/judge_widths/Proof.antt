@@ -24,10 +24,18 @@ is-width-requires : tie.Need-is-width-requires
 is-width-requires c κs = search needs
 
 returns-2 : tie.Need-returns-2
-returns-2 c = bad-sequence _ (ap judgedAnswer (sym (c .before .before .enum-told .given .1)) ∙ c .before .before .before .before .judge-entity-width .ensures) _ (sym (c .before .is-width .ensures) ∙ not-true _ (c .if1 .taken))
+returns-2 c =
+    let enum-told = c .before .before .enum-told in
+    let judge-entity-width = c .before .before .before .before .judge-entity-width in
+    bad-sequence _ (ap judgedAnswer (sym (enum-told .given .1)) ∙ judge-entity-width .ensures) _
+    (sym (c .before .is-width .ensures) ∙ not-true _ (c .if1 .taken))
 
 returns-3 : tie.Need-returns-3
-returns-3 c = both-widths _ (ap judgedAnswer (sym (c .before .before .enum-told .given .1)) ∙ c .before .before .before .before .judge-entity-width .ensures) _ (sym (c .before .is-width .ensures) ∙ not-false _ (c .if1 .left))
+returns-3 c =
+    let enum-told = c .before .before .enum-told in
+    let judge-entity-width = c .before .before .before .before .judge-entity-width in
+    both-widths _ (ap judgedAnswer (sym (enum-told .given .1)) ∙ judge-entity-width .ensures) _
+    (sym (c .before .is-width .ensures) ∙ not-false _ (c .if1 .left))
 
 pub judge-widths-spec : {M : Type 1} → statement M
 judge-widths-spec =

@@ -132,20 +132,41 @@ new-requires : tie.Need-new-requires
 new-requires c κs = search needs
 
 returns : tie.Need-returns
-returns c = header-is _ (c .before .before .before .before .before .before .before .before .before .before .before .before .before .before .before .before .before .before .before .before .before .before .before .before .before .before .before .before .pre) _ _ _ _ _ _ _ _ _ _ _ _ _ _
-    (c .before .before .before .before .before .before .before .before .before .before .before .before .before .from-bit .ensures ∙ ap pduTypeIf (c .before .before .before .before .before .before .before .before .before .before .before .before .before .before .bit-at .ensures))
-    (c .before .before .before .before .before .before .before .before .before .before .before .from-bit2 .ensures ∙ ap directionIf (c .before .before .before .before .before .before .before .before .before .before .before .before .bit-at2 .ensures))
-    (c .before .before .before .before .before .before .before .before .before .from-bit3 .ensures ∙ ap modeIf (c .before .before .before .before .before .before .before .before .before .before .bit-at3 .ensures))
-    (c .before .before .before .before .before .before .before .from-bit4 .ensures ∙ ap crcIf (c .before .before .before .before .before .before .before .before .bit-at4 .ensures))
-    (c .before .before .before .before .before .from-bit5 .ensures ∙ ap fileIf (c .before .before .before .before .before .before .bit-at5 .ensures))
-    (c .before .before .before .from-bit6 .ensures ∙ ap controlIf (c .before .before .before .before .bit-at6 .ensures))
-    (c .before .from-bit7 .ensures ∙ ap metadataIf (c .before .before .bit-at7 .ensures))
-    (c .before .before .before .before .before .before .before .before .before .before .before .before .before .before .before .before .before .before .before .before .before .before .before .before .width-at .ensures .0)
-    (omega (arith, c .before .before .before .before .before .before .before .before .before .before .before .before .before .before .before .before .before .before .before .before .before .before .before .width-at2 .ensures .0))
-    (c .before .before .before .before .before .before .before .before .before .before .before .before .before .before .before .before .before .before .before .before .before .read-be .ensures .0)
-    (c .before .before .before .before .before .before .before .before .before .before .before .before .before .before .before .before .before .before .before .read-be2 .ensures .0)
-    (c .before .before .before .before .before .before .before .before .before .before .before .before .before .before .before .before .before .read-be3 .ensures .0)
-    (c .before .before .before .before .before .before .before .before .before .before .before .before .before .before .before .read-be4 .ensures .0)
+returns c =
+    let pre = c .before .before .before .before .before .before .before .before .before .before .before .before .before .before .before .before .before .before .before .before .before .before .before .before .before .before .before .before .pre in
+    let from-bit = c .before .before .before .before .before .before .before .before .before .before .before .before .before .from-bit in
+    let bit-at = c .before .before .before .before .before .before .before .before .before .before .before .before .before .before .bit-at in
+    let from-bit2 = c .before .before .before .before .before .before .before .before .before .before .before .from-bit2 in
+    let bit-at2 = c .before .before .before .before .before .before .before .before .before .before .before .before .bit-at2 in
+    let from-bit3 = c .before .before .before .before .before .before .before .before .before .from-bit3 in
+    let bit-at3 = c .before .before .before .before .before .before .before .before .before .before .bit-at3 in
+    let from-bit4 = c .before .before .before .before .before .before .before .from-bit4 in
+    let bit-at4 = c .before .before .before .before .before .before .before .before .bit-at4 in
+    let from-bit5 = c .before .before .before .before .before .from-bit5 in
+    let bit-at5 = c .before .before .before .before .before .before .bit-at5 in
+    let from-bit6 = c .before .before .before .from-bit6 in
+    let bit-at6 = c .before .before .before .before .bit-at6 in
+    let bit-at7 = c .before .before .bit-at7 in
+    let width-at = c .before .before .before .before .before .before .before .before .before .before .before .before .before .before .before .before .before .before .before .before .before .before .before .before .width-at in
+    let width-at2 = c .before .before .before .before .before .before .before .before .before .before .before .before .before .before .before .before .before .before .before .before .before .before .before .width-at2 in
+    let read-be = c .before .before .before .before .before .before .before .before .before .before .before .before .before .before .before .before .before .before .before .before .before .read-be in
+    let read-be2 = c .before .before .before .before .before .before .before .before .before .before .before .before .before .before .before .before .before .before .before .read-be2 in
+    let read-be3 = c .before .before .before .before .before .before .before .before .before .before .before .before .before .before .before .before .before .read-be3 in
+    let read-be4 = c .before .before .before .before .before .before .before .before .before .before .before .before .before .before .before .read-be4 in
+    header-is _ pre _ _ _ _ _ _ _ _ _ _ _ _ _ _
+    (from-bit .ensures ∙ ap pduTypeIf (bit-at .ensures))
+    (from-bit2 .ensures ∙ ap directionIf (bit-at2 .ensures))
+    (from-bit3 .ensures ∙ ap modeIf (bit-at3 .ensures))
+    (from-bit4 .ensures ∙ ap crcIf (bit-at4 .ensures))
+    (from-bit5 .ensures ∙ ap fileIf (bit-at5 .ensures))
+    (from-bit6 .ensures ∙ ap controlIf (bit-at6 .ensures))
+    (c .before .from-bit7 .ensures ∙ ap metadataIf (bit-at7 .ensures))
+    (width-at .ensures .0)
+    (omega (arith, width-at2 .ensures .0))
+    (read-be .ensures .0)
+    (read-be2 .ensures .0)
+    (read-be3 .ensures .0)
+    (read-be4 .ensures .0)
     (c .new .ensures)
 
 pub header-in-spec : {M : Type 1} → statement M

@@ -31,13 +31,17 @@ returns-2 : tie.Need-returns-2
 returns-2 c = bad-version _ (omega arith) _ (c .before .three-at .ensures) (c .if2 .taken)
 
 shared-slice-read-width-at : tie.Need-shared-slice-read-width-at
-shared-slice-read-width-at c = omega (arith, length-take-le 4 (c .before .before .before .before .before .before .before .args .buf .now) (omega arith))
+shared-slice-read-width-at c =
+    let a = c .before .before .before .before .before .before .before .args in
+    omega (arith, length-take-le 4 (a .buf .now) (omega arith))
 
 width-at-requires : tie.Need-width-at-requires
 width-at-requires c κs = search needs
 
 shared-slice-read-width-at-2 : tie.Need-shared-slice-read-width-at-2
-shared-slice-read-width-at-2 c = omega (arith, length-take-le 4 (c .before .before .before .before .before .before .before .before .before .args .buf .now) (omega arith))
+shared-slice-read-width-at-2 c =
+    let a = c .before .before .before .before .before .before .before .before .before .args in
+    omega (arith, length-take-le 4 (a .buf .now) (omega arith))
 
 width-at-requires-2 : tie.Need-width-at-requires-2
 width-at-requires-2 c κs = search needs
@@ -49,7 +53,13 @@ enum-known-judged : tie.Need-enum-known-judged
 enum-known-judged c = search needs
 
 returns-3 : tie.Need-returns-3
-returns-3 c = bad-widths _ (omega arith) (sym (c .before .before .before .before .before .before .before .before .before .three-at .ensures) ∙ c .before .before .before .before .before .before .before .before .if2 .left) _ _ (c .before .before .before .before .before .before .width-at .ensures .0) (omega arith) _ (ap judgedAnswer (sym (c .before .judged .given .1)) ∙ c .before .before .before .judge-widths .ensures)
+returns-3 c =
+    let three-at = c .before .before .before .before .before .before .before .before .before .three-at in
+    let if2 = c .before .before .before .before .before .before .before .before .if2 in
+    let width-at = c .before .before .before .before .before .before .width-at in
+    let judge-widths = c .before .before .before .judge-widths in
+    bad-widths _ (omega arith) (sym (three-at .ensures) ∙ if2 .left) _ _ (width-at .ensures .0) (omega arith) _
+    (ap judgedAnswer (sym (c .before .judged .given .1)) ∙ judge-widths .ensures)
 
 enum-told : tie.Need-enum-told
 enum-told c = search needs
@@ -73,10 +83,35 @@ short-requires-2 : tie.Need-short-requires-2
 short-requires-2 c κs = search needs
 
 returns-4 : tie.Need-returns-4
-returns-4 c = rw (c .short2 .ensures) (short-h _ (omega arith) (sym (c .before .before .before .before .before .before .before .before .before .before .three-at .ensures) ∙ c .before .before .before .before .before .before .before .before .before .if2 .left) (c .before .before .before .before .before .before .before .width-at .result) (c .before .before .before .before .before .width-at2 .result) (c .before .before .before .before .before .before .before .width-at .ensures .0) (omega arith) (passed (widthTests (c .before .before .before .before .before .before .before .width-at .result) (c .before .before .before .before .before .width-at2 .result)) tt tt (ap judgedAnswer (sym (c .before .before .enum-told .given .1)) ∙ c .before .before .before .before .judge-widths .ensures) .0) _ (omega arith) (c .before .if3 .taken))
+returns-4 c =
+    let three-at = c .before .before .before .before .before .before .before .before .before .before .three-at in
+    let if2 = c .before .before .before .before .before .before .before .before .before .if2 in
+    let width-at = c .before .before .before .before .before .before .before .width-at in
+    let width-at2 = c .before .before .before .before .before .width-at2 in
+    let enum-told = c .before .before .enum-told in
+    let judge-widths = c .before .before .before .before .judge-widths in
+    rw (c .short2 .ensures)
+    (short-h _ (omega arith) (sym (three-at .ensures) ∙ if2 .left) (width-at .result) (width-at2 .result) (width-at .ensures .0)
+    (omega arith)
+    (passed (widthTests (width-at .result) (width-at2 .result)) tt tt (ap judgedAnswer (sym (enum-told .given .1)) ∙ judge-widths .ensures) .0) _
+    (omega arith) (c .before .if3 .taken))
 
 returns-5 : tie.Need-returns-5
-returns-5 c = let h = 4 + 2 * c .before .before .before .before .before .before .width-at .result + c .before .before .before .before .width-at2 .result in (omega arith, holds (c .before .before .before .before .before .before .before .before .before .before .before .before .before .before .args .buf .now) h (omega arith) (omega arith), whole _ (omega arith) (sym (c .before .before .before .before .before .before .before .before .before .three-at .ensures) ∙ c .before .before .before .before .before .before .before .before .if2 .left) (c .before .before .before .before .before .before .width-at .result) (c .before .before .before .before .width-at2 .result) (c .before .before .before .before .before .before .width-at .ensures .0) (omega arith) (passed (widthTests (c .before .before .before .before .before .before .width-at .result) (c .before .before .before .before .width-at2 .result)) tt tt (ap judgedAnswer (sym (c .before .enum-told .given .1)) ∙ c .before .before .before .judge-widths .ensures) .0) h (omega arith) (omega arith))
+returns-5 c =
+    let width-at = c .before .before .before .before .before .before .width-at in
+    let width-at2 = c .before .before .before .before .width-at2 in
+    let a = c .before .before .before .before .before .before .before .before .before .before .before .before .before .before .args in
+    let three-at = c .before .before .before .before .before .before .before .before .before .three-at in
+    let if2 = c .before .before .before .before .before .before .before .before .if2 in
+    let judge-widths = c .before .before .before .judge-widths in
+    let h = 4 + 2 * width-at .result + width-at2 .result in (
+      omega arith,
+      holds (a .buf .now) h (omega arith) (omega arith),
+      whole _ (omega arith) (sym (three-at .ensures) ∙ if2 .left) (width-at .result) (width-at2 .result) (width-at .ensures .0)
+          (omega arith)
+          (passed (widthTests (width-at .result) (width-at2 .result)) tt tt (ap judgedAnswer (sym (c .before .enum-told .given .1)) ∙ judge-widths .ensures) .0) h
+          (omega arith) (omega arith),
+    )
 
 pub length-in-spec : {M : Type 1} → statement M
 length-in-spec =

@@ -24,7 +24,9 @@ slice-reshare-prefix-checksum : tie.Need-slice-reshare-prefix-checksum
 slice-reshare-prefix-checksum c = search needs
 
 slice-aggregate-checksum : tie.Need-slice-aggregate-checksum
-slice-aggregate-checksum c = sym (length-take-le (c .before .before .before .before .before .args .n) (c .before .before .before .before .before .args .buf .now) (omega arith))
+slice-aggregate-checksum c =
+    let a = c .before .before .before .before .before .args in
+    sym (length-take-le (a .n) (a .buf .now) (omega arith))
 
 checksum-requires : tie.Need-checksum-requires
 checksum-requires c κs = search needs
@@ -39,7 +41,11 @@ same-length : tie.Need-same-length
 same-length c = search needs
 
 returns-3 : tie.Need-returns-3
-returns-3 c = with-crc _ _ _ _ _ (c .before .before .before .before .before .before .before .enum-told2 .given .1) (c .before .before .before .before .checksum .ensures) (c .before .before .write-be .ensures)
+returns-3 c =
+    let enum-told2 = c .before .before .before .before .before .before .before .enum-told2 in
+    let checksum = c .before .before .before .before .checksum in
+    let write-be = c .before .before .write-be in
+    with-crc _ _ _ _ _ (enum-told2 .given .1) (checksum .ensures) (write-be .ensures)
 
 pub add-pdu-crc-spec : {M : Type 1} → statement M
 add-pdu-crc-spec =

@@ -56,8 +56,19 @@ same-length c = search needs
 
 returns : tie.Need-returns
 returns c =
-    fields-put _ _ _ _ _ _ _ _ _ _ (c .before .before .before .before .before .before .before .before .before .before .before .before .before .before .before .before .before .before .before .before .before .before .before .before .before .before .before .before .before .before .pre .0) (c .before .before .before .before .before .before .before .before .before .before .before .before .before .before .before .before .before .before .before .before .before .before .before .before .before .before .before .before .before .before .pre .1) (let k = c .before .before .before .before .before .before .before .before .before .before .before .before .before .before .before .before .before .before .before .before .before .before .before .before .before .before .struct-known3 .given in omega arith) (let k = c .before .before .before .before .before .before .before .before .before .before .before .before .before .before .before .before .before .before .before .before .before .before .before .before .before .first-byte in omega arith) (let k = c .before .before .before .before .before .before .before .before .before .before .before .before .before .before .before .before .before .before .before .before .before .before .before .before .fourth-byte in omega arith) (c .before .before .before .before .before .before .before .before .before .before .before .before .before .before .before .before .before .before .before .before .before .before .before .before .before .first-byte .ensures) (c .before .before .before .before .before .before .before .before .before .before .before .before .before .before .before .before .before .before .before .before .before .before .before .before .fourth-byte .ensures)
-    (c .before .before .before .before .before .before .before .before .before .before .before .before .before .before .before .before .before .before .before .before .before .before .write-be .ensures) (c .before .before .before .before .before .before .before .before .before .before .before .before .before .before .before .before .before .before .write-be2 .ensures) (c .before .before .before .before .before .before .before .before .before .before .before .before .before .before .write-be3 .ensures) (c .before .before .before .before .before .before .before .before .before .before .put-identifier .ensures) (c .before .before .before .before .before .before .put-identifier2 .ensures) (c .before .before .put-identifier3 .ensures)
+    let pre = c .before .before .before .before .before .before .before .before .before .before .before .before .before .before .before .before .before .before .before .before .before .before .before .before .before .before .before .before .before .before .pre in
+    let struct-known3 = c .before .before .before .before .before .before .before .before .before .before .before .before .before .before .before .before .before .before .before .before .before .before .before .before .before .before .struct-known3 in
+    let first-byte = c .before .before .before .before .before .before .before .before .before .before .before .before .before .before .before .before .before .before .before .before .before .before .before .before .before .first-byte in
+    let fourth-byte = c .before .before .before .before .before .before .before .before .before .before .before .before .before .before .before .before .before .before .before .before .before .before .before .before .fourth-byte in
+    let write-be = c .before .before .before .before .before .before .before .before .before .before .before .before .before .before .before .before .before .before .before .before .before .before .write-be in
+    let write-be2 = c .before .before .before .before .before .before .before .before .before .before .before .before .before .before .before .before .before .before .write-be2 in
+    let write-be3 = c .before .before .before .before .before .before .before .before .before .before .before .before .before .before .write-be3 in
+    let put-identifier = c .before .before .before .before .before .before .before .before .before .before .put-identifier in
+    let put-identifier2 = c .before .before .before .before .before .before .put-identifier2 in
+    let put-identifier3 = c .before .before .put-identifier3 in
+    fields-put _ _ _ _ _ _ _ _ _ _ (pre .0) (pre .1) (let k = struct-known3 .given in omega arith) (let k = first-byte in omega arith)
+    (let k = fourth-byte in omega arith) (first-byte .ensures) (fourth-byte .ensures)
+    (write-be .ensures) (write-be2 .ensures) (write-be3 .ensures) (put-identifier .ensures) (put-identifier2 .ensures) (put-identifier3 .ensures)
 
 pub put-header-spec : {M : Type 1} → statement M
 put-header-spec =

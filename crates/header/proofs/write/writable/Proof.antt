@@ -36,10 +36,23 @@ returns : tie.Need-returns
 returns c = refused-record _ _ _ (ap headerAnswer (sym (c .before .judged2 .given .1)) ∙ c .before .before .before .judged .ensures)
 
 returns-2 : tie.Need-returns-2
-returns-2 c = short-of-h _ (passed-tests _ _ (ap headerAnswer (sym (c .before .before .before .before .before .enum-told .given .1)) ∙ c .before .before .before .before .before .before .before .judged .ensures)) _ _ _ (c .before .before .before .before .header-len .ensures .0) (ap judgedAnswer (sym (c .before .judged3 .given .1)) ∙ c .before .before .before .judge-room .ensures)
+returns-2 c =
+    let enum-told = c .before .before .before .before .before .enum-told in
+    let judged = c .before .before .before .before .before .before .before .judged in
+    let header-len = c .before .before .before .before .header-len in
+    let judge-room = c .before .before .before .judge-room in
+    short-of-h _ (passed-tests _ _ (ap headerAnswer (sym (enum-told .given .1)) ∙ judged .ensures)) _ _ _ (header-len .ensures .0)
+    (ap judgedAnswer (sym (c .before .judged3 .given .1)) ∙ judge-room .ensures)
 
 returns-3 : tie.Need-returns-3
-returns-3 c = enough _ (passed-tests _ _ (ap headerAnswer (sym (c .before .before .before .before .enum-told .given .1)) ∙ c .before .before .before .before .before .before .judged .ensures)) _ _ (c .before .before .before .header-len .ensures .0) (passed (noRoom (c .before .before .before .before .before .before .before .args .room) (c .before .before .before .header-len .result) ∷ []) tt tt (ap judgedAnswer (sym (c .enum-told2 .given .1)) ∙ c .before .before .judge-room .ensures) .0)
+returns-3 c =
+    let enum-told = c .before .before .before .before .enum-told in
+    let judged = c .before .before .before .before .before .before .judged in
+    let header-len = c .before .before .before .header-len in
+    let a = c .before .before .before .before .before .before .before .args in
+    let judge-room = c .before .before .judge-room in
+    enough _ (passed-tests _ _ (ap headerAnswer (sym (enum-told .given .1)) ∙ judged .ensures)) _ _ (header-len .ensures .0)
+    (passed (noRoom (a .room) (header-len .result) ∷ []) tt tt (ap judgedAnswer (sym (c .enum-told2 .given .1)) ∙ judge-room .ensures) .0)
 
 pub writable-spec : {M : Type 1} → statement M
 writable-spec =

@@ -23,7 +23,10 @@ print-nak-requires : tie.Need-print-nak-requires
 print-nak-requires c κs = search needs
 
 returns : tie.Need-returns
-returns c = other-listed (c .before .before .read .given .0 .0) _ _ (c .list-other .ensures) (ap nakAnswer (sym (c .before .before .read .given .1)) ∙ c .before .before .before .before .from-bytes .ensures)
+returns c =
+    let read = c .before .before .read in
+    let from-bytes = c .before .before .before .before .from-bytes in
+    other-listed (read .given .0 .0) _ _ (c .list-other .ensures) (ap nakAnswer (sym (read .given .1)) ∙ from-bytes .ensures)
 
 returns-2 : tie.Need-returns-2
 returns-2 c = nak-listed _ _ (ap nakAnswer (sym (c .before .before .read2 .given .1)) ∙ c .before .before .before .before .from-bytes .ensures)

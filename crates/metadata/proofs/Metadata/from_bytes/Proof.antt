@@ -20,22 +20,39 @@ header-len-requires : tie.Need-header-len-requires
 header-len-requires c κs = search needs
 
 sub-metadata-in : tie.Need-sub-metadata-in
-sub-metadata-in c = read-metadata _ _ _ (ap directiveAnswer (sym (c .before .before .read2 .given .1)) ∙ c .before .before .before .before .from-bytes .ensures) (c .header-len .ensures .0) .0 .before
+sub-metadata-in c =
+    let read2 = c .before .before .read2 in
+    let from-bytes = c .before .before .before .before .from-bytes in
+    read-metadata _ _ _ (ap directiveAnswer (sym (read2 .given .1)) ∙ from-bytes .ensures) (c .header-len .ensures .0) .0 .before
 
 part-metadata-in-start : tie.Need-part-metadata-in-start
-part-metadata-in-start c = read-metadata _ _ _ (ap directiveAnswer (sym (c .before .before .read2 .given .1)) ∙ c .before .before .before .before .from-bytes .ensures) (c .header-len .ensures .0) .0 .before
+part-metadata-in-start c =
+    let read2 = c .before .before .read2 in
+    let from-bytes = c .before .before .before .before .from-bytes in
+    read-metadata _ _ _ (ap directiveAnswer (sym (read2 .given .1)) ∙ from-bytes .ensures) (c .header-len .ensures .0) .0 .before
 
 part-metadata-in-end : tie.Need-part-metadata-in-end
-part-metadata-in-end c = read-metadata _ _ _ (ap directiveAnswer (sym (c .before .before .read2 .given .1)) ∙ c .before .before .before .before .from-bytes .ensures) (c .header-len .ensures .0) .0 .inside
+part-metadata-in-end c =
+    let read2 = c .before .before .read2 in
+    let from-bytes = c .before .before .before .before .from-bytes in
+    read-metadata _ _ _ (ap directiveAnswer (sym (read2 .given .1)) ∙ from-bytes .ensures) (c .header-len .ensures .0) .0 .inside
 
 metadata-in-requires : tie.Need-metadata-in-requires
-metadata-in-requires c κs = let k = read-metadata _ _ _ (ap directiveAnswer (sym (c .before .before .before .read2 .given .1)) ∙ c .before .before .before .before .before .from-bytes .ensures) (c .before .header-len .ensures .0) .0 in (k .stop-is, k .size)
+metadata-in-requires c κs =
+    let read2 = c .before .before .before .read2 in
+    let from-bytes = c .before .before .before .before .before .from-bytes in
+    let k = read-metadata _ _ _ (ap directiveAnswer (sym (read2 .given .1)) ∙ from-bytes .ensures) (c .before .header-len .ensures .0) .0 in
+    (k .stop-is, k .size)
 
 returns : tie.Need-returns
 returns c = refused-metadata _ _ (ap directiveAnswer (sym (c .before .read .given .1)) ∙ c .before .before .before .from-bytes .ensures)
 
 returns-2 : tie.Need-returns-2
-returns-2 c = c .metadata-in .ensures ∙ read-metadata _ _ _ (ap directiveAnswer (sym (c .before .before .before .before .read2 .given .1)) ∙ c .before .before .before .before .before .before .from-bytes .ensures) (c .before .before .header-len .ensures .0) .1
+returns-2 c =
+    let read2 = c .before .before .before .before .read2 in
+    let from-bytes = c .before .before .before .before .before .before .from-bytes in
+    let header-len = c .before .before .header-len in
+    c .metadata-in .ensures ∙ read-metadata _ _ _ (ap directiveAnswer (sym (read2 .given .1)) ∙ from-bytes .ensures) (header-len .ensures .0) .1
 
 pub from-bytes-spec : {M : Type 1} → statement M
 from-bytes-spec =

@@ -31,7 +31,20 @@ header-len-requires : tie.Need-header-len-requires
 header-len-requires c κs = search needs
 
 put-data-requires : tie.Need-put-data-requires
-put-data-requires c κs = (data-goes _ _ (c .before .before .before .before .before .before .before .before .before .before .before .with-direction .ensures) (ownTests (c .before .before .before .before .before .before .before .before .before .before .before .before .before .before .before .before .args .self) (c .before .before .before .before .before .before .before .before .before .before .before .before .before .before .before .before .args .source .now) (c .before .before .before .before .before .before .before .before .before .before .before .before .before .before .before .before .args .destination .now) (c .before .before .before .before .before .before .before .before .before .before .before .before .before .before .before .before .args .options .now)) _ _ (c .before .before .before .before .before .before .before .before .before .before .data-length .ensures) _ (c .before .before .before .before .before .before .before .before .before .with-data .ensures) _ _ _ (ap lengthAnswer (sym (c .before .before .before .begun2 .given .1)) ∙ c .before .before .before .before .before .before .before .begin-write .ensures .0) (c .before .before .before .before .before .before .before .begin-write .ensures .1) (metadataData (c .before .before .before .before .before .before .before .before .before .before .before .before .before .before .before .before .args .self) (c .before .before .before .before .before .before .before .before .before .before .before .before .before .before .before .before .args .source .now) (c .before .before .before .before .before .before .before .before .before .before .before .before .before .before .before .before .args .destination .now) (c .before .before .before .before .before .before .before .before .before .before .before .before .before .before .before .before .args .options .now)) (length-is (c .before .before .before .before .before .before .before .before .before .before .before .before .before .before .before .before .args .self) (c .before .before .before .before .before .before .before .before .before .before .before .before .before .before .before .before .args .source .now) (c .before .before .before .before .before .before .before .before .before .before .before .before .before .before .before .before .args .destination .now) (c .before .before .before .before .before .before .before .before .before .before .before .before .before .before .before .before .args .options .now)) _ (c .before .header-len .ensures .0), begun-passed _ _ (c .before .before .before .before .before .before .before .before .before .before .before .with-direction .ensures) (ownTests (c .before .before .before .before .before .before .before .before .before .before .before .before .before .before .before .before .args .self) (c .before .before .before .before .before .before .before .before .before .before .before .before .before .before .before .before .args .source .now) (c .before .before .before .before .before .before .before .before .before .before .before .before .before .before .before .before .args .destination .now) (c .before .before .before .before .before .before .before .before .before .before .before .before .before .before .before .before .args .options .now)) _ _ (c .before .before .before .before .before .before .before .before .before .before .data-length .ensures) _ (c .before .before .before .before .before .before .before .before .before .with-data .ensures) _ _ (ap lengthAnswer (sym (c .before .before .before .begun2 .given .1)) ∙ c .before .before .before .before .before .before .before .begin-write .ensures .0))
+put-data-requires c κs =
+    let with-direction = c .before .before .before .before .before .before .before .before .before .before .before .with-direction in
+    let a = c .before .before .before .before .before .before .before .before .before .before .before .before .before .before .before .before .args in
+    let data-length = c .before .before .before .before .before .before .before .before .before .before .data-length in
+    let with-data = c .before .before .before .before .before .before .before .before .before .with-data in
+    let begun2 = c .before .before .before .begun2 in
+    let begin-write = c .before .before .before .before .before .before .before .begin-write in (
+      data-goes _ _ (with-direction .ensures) (ownTests (a .self) (a .source .now) (a .destination .now) (a .options .now)) _ _
+          (data-length .ensures) _ (with-data .ensures) _ _ _ (ap lengthAnswer (sym (begun2 .given .1)) ∙ begin-write .ensures .0)
+          (begin-write .ensures .1) (metadataData (a .self) (a .source .now) (a .destination .now) (a .options .now))
+          (length-is (a .self) (a .source .now) (a .destination .now) (a .options .now)) _ (c .before .header-len .ensures .0),
+      begun-passed _ _ (with-direction .ensures) (ownTests (a .self) (a .source .now) (a .destination .now) (a .options .now)) _ _
+          (data-length .ensures) _ (with-data .ensures) _ _ (ap lengthAnswer (sym (begun2 .given .1)) ∙ begin-write .ensures .0),
+    )
 
 seal-requires : tie.Need-seal-requires
 seal-requires c κs = search needs
@@ -41,14 +54,36 @@ same-length c = search needs
 
 returns : tie.Need-returns
 unfolding writingMetadata metadataMemory filled
-returns c = write-refused _ _ (c .before .before .before .before .before .before .before .before .before .with-direction .ensures) (ownTests (c .before .before .before .before .before .before .before .before .before .before .before .before .before .before .args .self) (c .before .before .before .before .before .before .before .before .before .before .before .before .before .before .args .source .now) (c .before .before .before .before .before .before .before .before .before .before .before .before .before .before .args .destination .now) (c .before .before .before .before .before .before .before .before .before .before .before .before .before .before .args .options .now)) _ _ (c .before .before .before .before .before .before .before .before .data-length .ensures) _ (c .before .before .before .before .before .before .before .with-data .ensures) _ (metadataData (c .before .before .before .before .before .before .before .before .before .before .before .before .before .before .args .self) (c .before .before .before .before .before .before .before .before .before .before .before .before .before .before .args .source .now) (c .before .before .before .before .before .before .before .before .before .before .before .before .before .before .args .destination .now) (c .before .before .before .before .before .before .before .before .before .before .before .before .before .before .args .options .now)) _ _ (ap lengthAnswer (sym (c .before .begun .given .1)) ∙ c .before .before .before .before .before .begin-write .ensures .0) (c .before .before .before .before .before .begin-write .ensures .1)
+returns c =
+    let with-direction = c .before .before .before .before .before .before .before .before .before .with-direction in
+    let a = c .before .before .before .before .before .before .before .before .before .before .before .before .before .before .args in
+    let data-length = c .before .before .before .before .before .before .before .before .data-length in
+    let with-data = c .before .before .before .before .before .before .before .with-data in
+    let begin-write = c .before .before .before .before .before .begin-write in
+    write-refused _ _ (with-direction .ensures) (ownTests (a .self) (a .source .now) (a .destination .now) (a .options .now)) _ _
+    (data-length .ensures) _ (with-data .ensures) _ (metadataData (a .self) (a .source .now) (a .destination .now) (a .options .now)) _ _
+    (ap lengthAnswer (sym (c .before .begun .given .1)) ∙ begin-write .ensures .0) (begin-write .ensures .1)
 
 same-length-2 : tie.Need-same-length-2
 same-length-2 c = search needs
 
 returns-2 : tie.Need-returns-2
 unfolding writingMetadata metadataMemory filled
-returns-2 c = write-done _ _ (c .before .before .before .before .before .before .before .before .before .before .before .before .before .before .before .before .before .before .with-direction .ensures) (ownTests (c .before .before .before .before .before .before .before .before .before .before .before .before .before .before .before .before .before .before .before .before .before .before .before .args .self) (c .before .before .before .before .before .before .before .before .before .before .before .before .before .before .before .before .before .before .before .before .before .before .before .args .source .now) (c .before .before .before .before .before .before .before .before .before .before .before .before .before .before .before .before .before .before .before .before .before .before .before .args .destination .now) (c .before .before .before .before .before .before .before .before .before .before .before .before .before .before .before .before .before .before .before .before .before .before .before .args .options .now)) _ _ (c .before .before .before .before .before .before .before .before .before .before .before .before .before .before .before .before .before .data-length .ensures) _ (c .before .before .before .before .before .before .before .before .before .before .before .before .before .before .before .before .with-data .ensures) _ _ _ (ap lengthAnswer (sym (c .before .before .before .before .before .before .before .before .before .before .begun2 .given .1)) ∙ c .before .before .before .before .before .before .before .before .before .before .before .before .before .before .begin-write .ensures .0) (c .before .before .before .before .before .before .before .before .before .before .before .before .before .before .begin-write .ensures .1) (metadataData (c .before .before .before .before .before .before .before .before .before .before .before .before .before .before .before .before .before .before .before .before .before .before .before .args .self) (c .before .before .before .before .before .before .before .before .before .before .before .before .before .before .before .before .before .before .before .before .before .before .before .args .source .now) (c .before .before .before .before .before .before .before .before .before .before .before .before .before .before .before .before .before .before .before .before .before .before .before .args .destination .now) (c .before .before .before .before .before .before .before .before .before .before .before .before .before .before .before .before .before .before .before .before .before .before .before .args .options .now)) (length-is (c .before .before .before .before .before .before .before .before .before .before .before .before .before .before .before .before .before .before .before .before .before .before .before .args .self) (c .before .before .before .before .before .before .before .before .before .before .before .before .before .before .before .before .before .before .before .before .before .before .before .args .source .now) (c .before .before .before .before .before .before .before .before .before .before .before .before .before .before .before .before .before .before .before .before .before .before .before .args .destination .now) (c .before .before .before .before .before .before .before .before .before .before .before .before .before .before .before .before .before .before .before .before .before .before .before .args .options .now)) _ (c .before .before .before .before .before .before .before .before .header-len .ensures .0) _ _ (c .before .before .before .before .before .before .put-data .ensures) (c .before .before .seal .ensures)
+returns-2 c =
+    let with-direction = c .before .before .before .before .before .before .before .before .before .before .before .before .before .before .before .before .before .before .with-direction in
+    let a = c .before .before .before .before .before .before .before .before .before .before .before .before .before .before .before .before .before .before .before .before .before .before .before .args in
+    let data-length = c .before .before .before .before .before .before .before .before .before .before .before .before .before .before .before .before .before .data-length in
+    let with-data = c .before .before .before .before .before .before .before .before .before .before .before .before .before .before .before .before .with-data in
+    let begun2 = c .before .before .before .before .before .before .before .before .before .before .begun2 in
+    let begin-write = c .before .before .before .before .before .before .before .before .before .before .before .before .before .before .begin-write in
+    let header-len = c .before .before .before .before .before .before .before .before .header-len in
+    let put-data = c .before .before .before .before .before .before .put-data in
+    let seal = c .before .before .seal in
+    write-done _ _ (with-direction .ensures) (ownTests (a .self) (a .source .now) (a .destination .now) (a .options .now)) _ _
+    (data-length .ensures) _ (with-data .ensures) _ _ _ (ap lengthAnswer (sym (begun2 .given .1)) ∙ begin-write .ensures .0)
+    (begin-write .ensures .1) (metadataData (a .self) (a .source .now) (a .destination .now) (a .options .now))
+    (length-is (a .self) (a .source .now) (a .destination .now) (a .options .now)) _ (header-len .ensures .0) _ _ (put-data .ensures)
+    (seal .ensures)
 
 pub write-to-slice-spec : {M : Type 1} → statement M
 write-to-slice-spec = tie.close (tie.spec with-direction-requires data-length-requires with-data-requires begin-write-requires enum-known-begun enum-known-begun-2 header-len-requires put-data-requires seal-requires same-length returns same-length-2 returns-2)

@@ -20,10 +20,16 @@ judge-file-size-requires : tie.Need-judge-file-size-requires
 judge-file-size-requires c κs = search needs
 
 returns : tie.Need-returns
-returns c = bad-type (c .before .before .before .before .before .args .params) _ (ap judgedAnswer (sym (c .before .judged .given .1)) ∙ c .before .before .before .judge-type .ensures)
+returns c =
+    let a = c .before .before .before .before .before .args in
+    let judge-type = c .before .before .before .judge-type in
+    bad-type (a .params) _ (ap judgedAnswer (sym (c .before .judged .given .1)) ∙ judge-type .ensures)
 
 returns-2 : tie.Need-returns-2
-returns-2 c = c .judge-file-size .ensures ∙ size-decides (c .before .before .before .before .before .args .params) (ap judgedAnswer (sym (c .before .enum-told .given .1)) ∙ c .before .before .before .judge-type .ensures)
+returns-2 c =
+    let a = c .before .before .before .before .before .args in
+    let judge-type = c .before .before .before .judge-type in
+    c .judge-file-size .ensures ∙ size-decides (a .params) (ap judgedAnswer (sym (c .before .enum-told .given .1)) ∙ judge-type .ensures)
 
 pub judge-fixed-spec : {M : Type 1} → statement M
 judge-fixed-spec = tie.close (tie.spec judge-type-requires enum-known-judged enum-told judge-file-size-requires returns returns-2)

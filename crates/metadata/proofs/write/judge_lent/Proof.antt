@@ -7,10 +7,14 @@ use Rattle.metadata.proofs.write.judge_lent.Statement.{statement}
 use Rattle.metadata.proofs.write.judge_lent.Tie as tie
 
 returns : tie.Need-returns
-returns c = long-source (c .before .before .before .before .args .source .now) (c .before .before .before .before .args .destination .now) (c .before .before .before .before .args .options .now) (c .if1 .taken)
+returns c =
+    let a = c .before .before .before .before .args in
+    long-source (a .source .now) (a .destination .now) (a .options .now) (c .if1 .taken)
 
 returns-2 : tie.Need-returns-2
-returns-2 c = long-destination (c .before .before .before .before .before .args .source .now) (c .before .before .before .before .before .args .destination .now) (c .before .before .before .before .before .args .options .now) (c .before .if1 .left) (c .if2 .taken)
+returns-2 c =
+    let a = c .before .before .before .before .before .args in
+    long-destination (a .source .now) (a .destination .now) (a .options .now) (c .before .if1 .left) (c .if2 .taken)
 
 first-cut-requires : tie.Need-first-cut-requires
 first-cut-requires c κs = search needs
@@ -22,10 +26,21 @@ enum-told : tie.Need-enum-told
 enum-told c = search needs
 
 returns-3 : tie.Need-returns-3
-returns-3 c = cut-option (c .before .before .before .before .before .before .before .before .before .args .source .now) (c .before .before .before .before .before .before .before .before .before .args .destination .now) (c .before .before .before .before .before .before .before .before .before .args .options .now) (c .before .before .before .before .before .if1 .left) (c .before .before .before .before .if2 .left) _ (sym (c .before .cut .given .1) ∙ c .before .before .before .first-cut .ensures)
+returns-3 c =
+    let a = c .before .before .before .before .before .before .before .before .before .args in
+    let if1 = c .before .before .before .before .before .if1 in
+    let if2 = c .before .before .before .before .if2 in
+    let first-cut = c .before .before .before .first-cut in
+    cut-option (a .source .now) (a .destination .now) (a .options .now) (if1 .left) (if2 .left) _
+    (sym (c .before .cut .given .1) ∙ first-cut .ensures)
 
 returns-4 : tie.Need-returns-4
-returns-4 c = lent-passes (c .before .before .before .before .before .before .before .before .args .source .now) (c .before .before .before .before .before .before .before .before .args .destination .now) (c .before .before .before .before .before .before .before .before .args .options .now) (c .before .before .before .before .if1 .left) (c .before .before .before .if2 .left) (sym (c .enum-told .given .1) ∙ c .before .before .first-cut .ensures)
+returns-4 c =
+    let a = c .before .before .before .before .before .before .before .before .args in
+    let if1 = c .before .before .before .before .if1 in
+    let if2 = c .before .before .before .if2 in
+    let first-cut = c .before .before .first-cut in
+    lent-passes (a .source .now) (a .destination .now) (a .options .now) (if1 .left) (if2 .left) (sym (c .enum-told .given .1) ∙ first-cut .ensures)
 
 pub judge-lent-spec : {M : Type 1} → statement M
 judge-lent-spec = tie.close (tie.spec returns returns-2 first-cut-requires enum-known-cut enum-told returns-3 returns-4)

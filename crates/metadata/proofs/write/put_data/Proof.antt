@@ -15,16 +15,37 @@ add-names-2 : tie.Need-add-names-2
 add-names-2 c = search needs
 
 put-fixed-requires : tie.Need-put-fixed-requires
-put-fixed-requires c κs = (fixed-room (c .before .before .before .before .before .before .before .args .params) (c .before .before .before .before .before .before .before .args .source .now) (c .before .before .before .before .before .before .before .args .destination .now) (c .before .before .before .before .before .before .before .args .options .now) (c .before .before .before .before .before .before .before .args .buf .now) (c .before .before .before .before .before .before .before .args .at) _ (c .before .before .before .before .before .before .before .pre .0) (c .before .size-width .ensures .0), fixed-passed (c .before .before .before .before .before .before .before .args .params) (c .before .before .before .before .before .before .before .args .source .now) (c .before .before .before .before .before .before .before .args .destination .now) (c .before .before .before .before .before .before .before .args .options .now) (c .before .before .before .before .before .before .before .pre .1))
+put-fixed-requires c κs =
+    let a = c .before .before .before .before .before .before .before .args in
+    let pre = c .before .before .before .before .before .before .before .pre in (
+      fixed-room (a .params) (a .source .now) (a .destination .now) (a .options .now) (a .buf .now) (a .at) _ (pre .0)
+          (c .before .size-width .ensures .0),
+      fixed-passed (a .params) (a .source .now) (a .destination .now) (a .options .now) (pre .1),
+    )
 
 put-lent-requires : tie.Need-put-lent-requires
-put-lent-requires c κs = (lent-room (c .before .before .before .before .before .before .before .before .before .before .before .args .params) (c .before .before .before .before .before .before .before .before .before .before .before .args .source .now) (c .before .before .before .before .before .before .before .before .before .before .before .args .destination .now) (c .before .before .before .before .before .before .before .before .before .before .before .args .options .now) (c .before .before .before .before .before .before .before .before .before .before .before .args .buf .now) (c .before .before .before .before .before .before .before .before .before .before .before .args .at) _ (c .before .before .before .before .before .before .before .before .before .before .before .pre .0) (c .before .before .before .before .before .size-width .ensures .0) _ (c .before .before .before .put-fixed .ensures), lent-passed (c .before .before .before .before .before .before .before .before .before .before .before .args .params) (c .before .before .before .before .before .before .before .before .before .before .before .args .source .now) (c .before .before .before .before .before .before .before .before .before .before .before .args .destination .now) (c .before .before .before .before .before .before .before .before .before .before .before .args .options .now) (c .before .before .before .before .before .before .before .before .before .before .before .pre .1))
+put-lent-requires c κs =
+    let a = c .before .before .before .before .before .before .before .before .before .before .before .args in
+    let pre = c .before .before .before .before .before .before .before .before .before .before .before .pre in
+    let size-width = c .before .before .before .before .before .size-width in
+    let put-fixed = c .before .before .before .put-fixed in (
+      lent-room (a .params) (a .source .now) (a .destination .now) (a .options .now) (a .buf .now) (a .at) _ (pre .0)
+          (size-width .ensures .0) _ (put-fixed .ensures),
+      lent-passed (a .params) (a .source .now) (a .destination .now) (a .options .now) (pre .1),
+    )
 
 same-length : tie.Need-same-length
 same-length c = search needs
 
 returns : tie.Need-returns
-returns c = data-stored (c .before .before .before .before .before .before .before .before .before .before .before .before .before .before .args .params) (c .before .before .before .before .before .before .before .before .before .before .before .before .before .before .args .source .now) (c .before .before .before .before .before .before .before .before .before .before .before .before .before .before .args .destination .now) (c .before .before .before .before .before .before .before .before .before .before .before .before .before .before .args .options .now) (c .before .before .before .before .before .before .before .before .before .before .before .before .before .before .args .buf .now) (c .before .before .before .before .before .before .before .before .before .before .before .before .before .before .args .at) _ (c .before .before .before .before .before .before .before .before .before .before .before .before .before .before .pre .0) (c .before .before .before .before .before .before .before .before .size-width .ensures .0) _ _ (c .before .before .before .before .before .before .put-fixed .ensures) (c .before .before .put-lent .ensures)
+returns c =
+    let a = c .before .before .before .before .before .before .before .before .before .before .before .before .before .before .args in
+    let pre = c .before .before .before .before .before .before .before .before .before .before .before .before .before .before .pre in
+    let size-width = c .before .before .before .before .before .before .before .before .size-width in
+    let put-fixed = c .before .before .before .before .before .before .put-fixed in
+    let put-lent = c .before .before .put-lent in
+    data-stored (a .params) (a .source .now) (a .destination .now) (a .options .now) (a .buf .now) (a .at) _ (pre .0)
+    (size-width .ensures .0) _ _ (put-fixed .ensures) (put-lent .ensures)
 
 pub put-data-spec : {M : Type 1} → statement M
 put-data-spec = tie.close (tie.spec add-names size-width-requires add-names-2 put-fixed-requires put-lent-requires same-length returns)

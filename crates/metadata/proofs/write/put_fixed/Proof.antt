@@ -30,16 +30,33 @@ add-buf : tie.Need-add-buf
 add-buf c = search needs
 
 slice-write-buf-2 : tie.Need-slice-write-buf-2
-slice-write-buf-2 c = simp length-set (omega (arith, c .before .before .before .before .pre .0, fixed-size (c .before .before .before .before .args .params)))
+slice-write-buf-2 c =
+    let pre = c .before .before .before .before .pre in
+    let a = c .before .before .before .before .args in
+    simp length-set (omega (arith, pre .0, fixed-size (a .params)))
 
 write-size-requires : tie.Need-write-size-requires
 write-size-requires c κs = search needs
 
 same-length : tie.Need-same-length
-same-length c = ap length (fixed-stored (c .before .before .before .before .before .before .before .before .args .params) (c .before .before .before .before .before .before .before .before .args .at) _ (c .before .before .before .before .before .before .before .before .args .buf .now) _ (c .before .before .before .before .before .before .before .before .pre .0) (c .before .before .before .before .before .before .before .before .pre .1) (ap (λ (n : ℕ). n * 64 + c .before .before .before .before .before .before .before .before .args .params .kind) (c .before .before .before .before .before .closure-bit .ensures .0)) (c .before .before .write-size .ensures)) ∙ length-sets (c .before .before .before .before .before .before .before .before .args .buf .now) (c .before .before .before .before .before .before .before .before .args .at) (fixedData (c .before .before .before .before .before .before .before .before .args .params))
+same-length c =
+    let a = c .before .before .before .before .before .before .before .before .args in
+    let pre = c .before .before .before .before .before .before .before .before .pre in
+    let closure-bit = c .before .before .before .before .before .closure-bit in
+    let write-size = c .before .before .write-size in
+    ap length
+    (fixed-stored (a .params) (a .at) _ (a .buf .now) _ (pre .0) (pre .1)
+    (ap (λ (n : ℕ). n * 64 + a .params .kind) (closure-bit .ensures .0)) (write-size .ensures))
+    ∙ length-sets (a .buf .now) (a .at) (fixedData (a .params))
 
 returns : tie.Need-returns
-returns c = fixed-stored (c .before .before .before .before .before .before .before .before .args .params) (c .before .before .before .before .before .before .before .before .args .at) _ (c .before .before .before .before .before .before .before .before .args .buf .now) _ (c .before .before .before .before .before .before .before .before .pre .0) (c .before .before .before .before .before .before .before .before .pre .1) (ap (λ (n : ℕ). n * 64 + c .before .before .before .before .before .before .before .before .args .params .kind) (c .before .before .before .before .before .closure-bit .ensures .0)) (c .before .before .write-size .ensures)
+returns c =
+    let a = c .before .before .before .before .before .before .before .before .args in
+    let pre = c .before .before .before .before .before .before .before .before .pre in
+    let closure-bit = c .before .before .before .before .before .closure-bit in
+    let write-size = c .before .before .write-size in
+    fixed-stored (a .params) (a .at) _ (a .buf .now) _ (pre .0) (pre .1)
+    (ap (λ (n : ℕ). n * 64 + a .params .kind) (closure-bit .ensures .0)) (write-size .ensures)
 
 pub put-fixed-spec : {M : Type 1} → statement M
 put-fixed-spec = tie.close (tie.spec add-third closure-bit-requires mul-byte add-byte slice-write-buf add-buf slice-write-buf-2 write-size-requires same-length returns)

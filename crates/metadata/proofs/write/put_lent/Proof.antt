@@ -13,10 +13,16 @@ add-middle-2 : tie.Need-add-middle-2
 add-middle-2 c = search needs
 
 add-last : tie.Need-add-last
-add-last c = omega (arith, c .before .before .before .before .pre .0, lent-size (c .before .before .before .before .args .source .now) (c .before .before .before .before .args .destination .now) (c .before .before .before .before .args .options .now))
+add-last c =
+    let pre = c .before .before .before .before .pre in
+    let a = c .before .before .before .before .args in
+    omega (arith, pre .0, lent-size (a .source .now) (a .destination .now) (a .options .now))
 
 add-last-2 : tie.Need-add-last-2
-add-last-2 c = omega (arith, c .before .before .before .before .pre .0, lent-size (c .before .before .before .before .args .source .now) (c .before .before .before .before .args .destination .now) (c .before .before .before .before .args .options .now))
+add-last-2 c =
+    let pre = c .before .before .before .before .pre in
+    let a = c .before .before .before .before .args in
+    omega (arith, pre .0, lent-size (a .source .now) (a .destination .now) (a .options .now))
 
 put-field-requires : tie.Need-put-field-requires
 put-field-requires c κs = search needs
@@ -31,7 +37,14 @@ same-length : tie.Need-same-length
 same-length c = search needs
 
 returns : tie.Need-returns
-returns c = lent-stored _ _ _ _ (c .before .before .before .before .before .before .before .before .before .before .before .before .before .before .before .before .args .source .now) (c .before .before .before .before .before .before .before .before .before .before .before .before .before .before .before .before .args .destination .now) (c .before .before .before .before .before .before .before .before .before .before .before .before .before .before .before .before .args .options .now) _ (c .before .before .before .before .before .before .before .before .before .before .before .before .before .before .before .before .pre .1) (c .before .before .before .before .before .before .before .before .before .before .before .before .before .before .before .before .pre .0) (c .before .before .before .before .before .before .before .before .before .before .put-field .ensures) (c .before .before .before .before .before .before .put-field2 .ensures) (c .before .before .put-bytes .ensures)
+returns c =
+    let a = c .before .before .before .before .before .before .before .before .before .before .before .before .before .before .before .before .args in
+    let pre = c .before .before .before .before .before .before .before .before .before .before .before .before .before .before .before .before .pre in
+    let put-field = c .before .before .before .before .before .before .before .before .before .before .put-field in
+    let put-field2 = c .before .before .before .before .before .before .put-field2 in
+    let put-bytes = c .before .before .put-bytes in
+    lent-stored _ _ _ _ (a .source .now) (a .destination .now) (a .options .now) _ (pre .1) (pre .0) (put-field .ensures)
+    (put-field2 .ensures) (put-bytes .ensures)
 
 pub put-lent-spec : {M : Type 1} → statement M
 put-lent-spec = tie.close (tie.spec add-middle add-middle-2 add-last add-last-2 put-field-requires put-field-requires-2 put-bytes-requires same-length returns)

@@ -33,25 +33,64 @@ enum-told : tie.Need-enum-told
 enum-told c = search needs
 
 sub-nak-in : tie.Need-sub-nak-in
-sub-nak-in c = omega (arith, lies _ _ (ap directiveAnswer (sym (c .before .before .before .before .before .before .before .read2 .given .1)) ∙ c .before .before .before .before .before .before .before .before .before .from-bytes .ensures) _ (c .before .before .before .before .header-len .ensures .0) .before)
+sub-nak-in c =
+    let read2 = c .before .before .before .before .before .before .before .read2 in
+    let from-bytes = c .before .before .before .before .before .before .before .before .before .from-bytes in
+    let header-len = c .before .before .before .before .header-len in
+    omega (arith, lies _ _ (ap directiveAnswer (sym (read2 .given .1)) ∙ from-bytes .ensures) _ (header-len .ensures .0) .before)
 
 part-nak-in-start : tie.Need-part-nak-in-start
-part-nak-in-start c = omega (arith, lies _ _ (ap directiveAnswer (sym (c .before .before .before .before .before .before .before .read2 .given .1)) ∙ c .before .before .before .before .before .before .before .before .before .from-bytes .ensures) _ (c .before .before .before .before .header-len .ensures .0) .before)
+part-nak-in-start c =
+    let read2 = c .before .before .before .before .before .before .before .read2 in
+    let from-bytes = c .before .before .before .before .before .before .before .before .before .from-bytes in
+    let header-len = c .before .before .before .before .header-len in
+    omega (arith, lies _ _ (ap directiveAnswer (sym (read2 .given .1)) ∙ from-bytes .ensures) _ (header-len .ensures .0) .before)
 
 part-nak-in-end : tie.Need-part-nak-in-end
-part-nak-in-end c = omega (arith, lies _ _ (ap directiveAnswer (sym (c .before .before .before .before .before .before .before .read2 .given .1)) ∙ c .before .before .before .before .before .before .before .before .before .from-bytes .ensures) _ (c .before .before .before .before .header-len .ensures .0) .inside)
+part-nak-in-end c =
+    let read2 = c .before .before .before .before .before .before .before .read2 in
+    let from-bytes = c .before .before .before .before .before .before .before .before .before .from-bytes in
+    let header-len = c .before .before .before .before .header-len in
+    omega (arith, lies _ _ (ap directiveAnswer (sym (read2 .given .1)) ∙ from-bytes .ensures) _ (header-len .ensures .0) .inside)
 
 nak-in-requires : tie.Need-nak-in-requires
-nak-in-requires c κs = let v = lies _ _ (ap directiveAnswer (sym (c .before .before .before .before .before .before .before .before .read2 .given .1)) ∙ c .before .before .before .before .before .before .before .before .before .before .from-bytes .ensures) _ (c .before .before .before .before .before .header-len .ensures .0) in (c .before .before .before .before .area-start .ensures .0, v .stop-is, scope-there _ _ (ap directiveAnswer (sym (c .before .before .before .before .before .before .before .before .read2 .given .1)) ∙ c .before .before .before .before .before .before .before .before .before .before .from-bytes .ensures) _ (c .before .before .before .before .before .header-len .ensures .0) _ (c .before .before .before .before .area-start .ensures .0) (ap judgedAnswer (sym (c .before .enum-told .given .1)) ∙ c .before .before .before .judge-data .ensures), v .size)
+nak-in-requires c κs =
+    let read2 = c .before .before .before .before .before .before .before .before .read2 in
+    let from-bytes = c .before .before .before .before .before .before .before .before .before .before .from-bytes in
+    let header-len = c .before .before .before .before .before .header-len in
+    let area-start = c .before .before .before .before .area-start in
+    let judge-data = c .before .before .before .judge-data in
+    let v = lies _ _ (ap directiveAnswer (sym (read2 .given .1)) ∙ from-bytes .ensures) _ (header-len .ensures .0) in (
+      area-start .ensures .0,
+      v .stop-is,
+      scope-there _ _ (ap directiveAnswer (sym (read2 .given .1)) ∙ from-bytes .ensures) _ (header-len .ensures .0) _
+          (area-start .ensures .0) (ap judgedAnswer (sym (c .before .enum-told .given .1)) ∙ judge-data .ensures),
+      v .size,
+    )
 
 returns : tie.Need-returns
 returns c = refused-pdu _ _ (ap directiveAnswer (sym (c .before .read .given .1)) ∙ c .before .before .before .from-bytes .ensures)
 
 returns-2 : tie.Need-returns-2
-returns-2 c = scope-short _ _ (ap directiveAnswer (sym (c .before .before .before .before .before .before .before .before .read2 .given .1)) ∙ c .before .before .before .before .before .before .before .before .before .before .from-bytes .ensures) _ (c .before .before .before .before .before .header-len .ensures .0) _ (c .before .before .before .before .area-start .ensures .0) _ (ap judgedAnswer (sym (c .before .judged .given .1)) ∙ c .before .before .before .judge-data .ensures)
+returns-2 c =
+    let read2 = c .before .before .before .before .before .before .before .before .read2 in
+    let from-bytes = c .before .before .before .before .before .before .before .before .before .before .from-bytes in
+    let header-len = c .before .before .before .before .before .header-len in
+    let area-start = c .before .before .before .before .area-start in
+    let judge-data = c .before .before .before .judge-data in
+    scope-short _ _ (ap directiveAnswer (sym (read2 .given .1)) ∙ from-bytes .ensures) _ (header-len .ensures .0) _ (area-start .ensures .0) _
+    (ap judgedAnswer (sym (c .before .judged .given .1)) ∙ judge-data .ensures)
 
 returns-3 : tie.Need-returns-3
-returns-3 c = nak-read _ _ (ap directiveAnswer (sym (c .before .before .before .before .before .before .before .before .before .read2 .given .1)) ∙ c .before .before .before .before .before .before .before .before .before .before .before .from-bytes .ensures) _ (c .before .before .before .before .before .before .header-len .ensures .0) _ (c .before .before .before .before .before .area-start .ensures .0) (ap judgedAnswer (sym (c .before .before .enum-told .given .1)) ∙ c .before .before .before .before .judge-data .ensures) _ (c .nak-in .ensures)
+returns-3 c =
+    let read2 = c .before .before .before .before .before .before .before .before .before .read2 in
+    let from-bytes = c .before .before .before .before .before .before .before .before .before .before .before .from-bytes in
+    let header-len = c .before .before .before .before .before .before .header-len in
+    let area-start = c .before .before .before .before .before .area-start in
+    let enum-told = c .before .before .enum-told in
+    let judge-data = c .before .before .before .before .judge-data in
+    nak-read _ _ (ap directiveAnswer (sym (read2 .given .1)) ∙ from-bytes .ensures) _ (header-len .ensures .0) _ (area-start .ensures .0)
+    (ap judgedAnswer (sym (enum-told .given .1)) ∙ judge-data .ensures) _ (c .nak-in .ensures)
 
 pub from-bytes-spec : {M : Type 1} → statement M
 from-bytes-spec =

@@ -27,7 +27,11 @@ returns : tie.Need-returns
 returns c = refused-reading _ _ _ _ [] _ _ (ap nakAnswer (sym (c .before .read .given .1)) ∙ c .before .before .before .from-bytes .ensures)
 
 returns-2 : tie.Need-returns-2
-returns-2 c = c .compare-read .ensures ∙ nothing-decides _ _ _ _ [] _ _ (ap nakAnswer (sym (c .before .before .before .read2 .given .1)) ∙ c .before .before .before .before .before .from-bytes .ensures) _ _ (c .before .request-area .ensures) refl refl
+returns-2 c =
+    let read2 = c .before .before .before .read2 in
+    let from-bytes = c .before .before .before .before .before .from-bytes in
+    c .compare-read .ensures
+    ∙ nothing-decides _ _ _ _ [] _ _ (ap nakAnswer (sym (read2 .given .1)) ∙ from-bytes .ensures) _ _ (c .before .request-area .ensures) refl refl
 
 pub compare-no-segment-requests-spec : {M : Type 1} → statement M
 compare-no-segment-requests-spec =

@@ -29,7 +29,13 @@ returns : tie.Need-returns
 returns c = refused-reading _ _ _ _ _ _ _ (ap nakAnswer (sym (c .before .read .given .1)) ∙ c .before .before .before .from-bytes .ensures)
 
 returns-2 : tie.Need-returns-2
-returns-2 c = c .compare-read .ensures ∙ list-decides _ _ _ _ _ _ _ (ap nakAnswer (sym (c .before .before .before .before .read2 .given .1)) ∙ c .before .before .before .before .before .before .from-bytes .ensures) 4 _ _ refl (c .before .before .request-area .ensures) (c .before .holds-normal .ensures)
+returns-2 c =
+    let read2 = c .before .before .before .before .read2 in
+    let from-bytes = c .before .before .before .before .before .before .from-bytes in
+    let request-area = c .before .before .request-area in
+    c .compare-read .ensures
+    ∙ list-decides _ _ _ _ _ _ _ (ap nakAnswer (sym (read2 .given .1)) ∙ from-bytes .ensures) 4 _ _ refl (request-area .ensures)
+    (c .before .holds-normal .ensures)
 
 pub compare-normal-file-size-spec : {M : Type 1} → statement M
 compare-normal-file-size-spec =

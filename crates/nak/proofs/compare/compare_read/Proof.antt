@@ -17,7 +17,9 @@ enum-known-judged : tie.Need-enum-known-judged
 enum-known-judged c = search needs
 
 returns : tie.Need-returns
-returns c = refused-judging _ _ _ _ _ _ _ _ (refused-record _ _ _ _ _ _ (ap judgedAnswer (sym (c .before .judged .given .1)) ∙ c .before .before .before .judged-directive .ensures))
+returns c =
+    let judged-directive = c .before .before .before .judged-directive in
+    refused-judging _ _ _ _ _ _ _ _ (refused-record _ _ _ _ _ _ (ap judgedAnswer (sym (c .before .judged .given .1)) ∙ judged-directive .ensures))
 
 enum-told : tie.Need-enum-told
 enum-told c = search needs
@@ -41,16 +43,42 @@ same-nak-requires : tie.Need-same-nak-requires
 same-nak-requires c κs = search needs
 
 returns-2 : tie.Need-returns-2
-returns-2 c = not-alike _ _ _ _ _ _ _ _ (judged-filled _ _ _ _ _ (passed-directive _ (ap judgedAnswer (sym (c .before .before .before .before .before .before .before .before .enum-told .given .1)) ∙ c .before .before .before .before .before .before .before .before .before .before .judged-directive .ensures)) _ (c .before .before .before .before .before .before .before .data-length .ensures) _ _ _ (ap dataAnswer (sym (c .before .before .before .before .before .own2 .given .1))) (c .before .before .before .towards-sender .ensures) (c .before .before .with-datafield-len .ensures)) _ _ refl (c .before .same-nak .ensures) (not-true _ (c .if1 .taken))
+returns-2 c =
+    let enum-told = c .before .before .before .before .before .before .before .before .enum-told in
+    let judged-directive = c .before .before .before .before .before .before .before .before .before .before .judged-directive in
+    let data-length = c .before .before .before .before .before .before .before .data-length in
+    let own2 = c .before .before .before .before .before .own2 in
+    let towards-sender = c .before .before .before .towards-sender in
+    let with-datafield-len = c .before .before .with-datafield-len in
+    not-alike _ _ _ _ _ _ _ _
+    (judged-filled _ _ _ _ _ (passed-directive _ (ap judgedAnswer (sym (enum-told .given .1)) ∙ judged-directive .ensures)) _ (data-length .ensures) _ _ _ (ap dataAnswer (sym (own2 .given .1))) (towards-sender .ensures) (with-datafield-len .ensures)) _ _ refl
+    (c .before .same-nak .ensures) (not-true _ (c .if1 .taken))
 
 verdict-requires : tie.Need-verdict-requires
 verdict-requires c κs = search needs
 
 returns-3 : tie.Need-returns-3
-returns-3 c = refused-judging _ _ _ _ _ _ _ _ (refused-own _ _ _ _ _ (passed-directive _ (ap judgedAnswer (sym (c .before .before .before .before .enum-told .given .1)) ∙ c .before .before .before .before .before .before .judged-directive .ensures)) _ (c .before .before .before .data-length .ensures) _ (ap dataAnswer (sym (c .before .own .given .1))))
+returns-3 c =
+    let enum-told = c .before .before .before .before .enum-told in
+    let judged-directive = c .before .before .before .before .before .before .judged-directive in
+    let data-length = c .before .before .before .data-length in
+    refused-judging _ _ _ _ _ _ _ _
+    (refused-own _ _ _ _ _ (passed-directive _ (ap judgedAnswer (sym (enum-told .given .1)) ∙ judged-directive .ensures)) _
+    (data-length .ensures) _ (ap dataAnswer (sym (c .before .own .given .1))))
 
 returns-4 : tie.Need-returns-4
-returns-4 c = c .verdict .ensures ∙ alike _ _ _ _ _ _ _ _ (judged-filled _ _ _ _ _ (passed-directive _ (ap judgedAnswer (sym (c .before .before .before .before .before .before .before .before .before .enum-told .given .1)) ∙ c .before .before .before .before .before .before .before .before .before .before .before .judged-directive .ensures)) _ (c .before .before .before .before .before .before .before .before .data-length .ensures) _ _ _ (ap dataAnswer (sym (c .before .before .before .before .before .before .own2 .given .1))) (c .before .before .before .before .towards-sender .ensures) (c .before .before .before .with-datafield-len .ensures)) _ _ refl (c .before .before .same-nak .ensures) (not-false _ (c .before .if1 .left))
+returns-4 c =
+    let enum-told = c .before .before .before .before .before .before .before .before .before .enum-told in
+    let judged-directive = c .before .before .before .before .before .before .before .before .before .before .before .judged-directive in
+    let data-length = c .before .before .before .before .before .before .before .before .data-length in
+    let own2 = c .before .before .before .before .before .before .own2 in
+    let towards-sender = c .before .before .before .before .towards-sender in
+    let with-datafield-len = c .before .before .before .with-datafield-len in
+    let same-nak = c .before .before .same-nak in
+    c .verdict .ensures
+    ∙ alike _ _ _ _ _ _ _ _
+    (judged-filled _ _ _ _ _ (passed-directive _ (ap judgedAnswer (sym (enum-told .given .1)) ∙ judged-directive .ensures)) _ (data-length .ensures) _ _ _ (ap dataAnswer (sym (own2 .given .1))) (towards-sender .ensures) (with-datafield-len .ensures)) _ _ refl
+    (same-nak .ensures) (not-false _ (c .before .if1 .left))
 
 pub compare-read-spec : {M : Type 1} → statement M
 compare-read-spec =

@@ -24,7 +24,9 @@ sub-if1 : tie.Need-sub-if1 Inv-loop μ-loop
 sub-if1 c = search needs
 
 returns : tie.Need-returns Inv-loop μ-loop
-returns c = number-short 4 _ _ _ (c .before .before .loop .i) (c .before .before .loop .inv .0) (c .before .loop-test .taken) (c .if1 .taken) ∙ c .before .before .loop .inv .1
+returns c =
+    let l = c .before .before .loop in
+    number-short 4 _ _ _ (l .i) (l .inv .0) (c .before .loop-test .taken) (c .if1 .taken) ∙ l .inv .1
 
 read-be-requires : tie.Need-read-be-requires Inv-loop μ-loop
 read-be-requires c κs = search needs
@@ -39,7 +41,12 @@ cast-if2 : tie.Need-cast-if2 Inv-loop μ-loop
 cast-if2 c = omega (arith, c .shared-slice-known3 .given (c .before .before .before .before .loop .i))
 
 returns-2 : tie.Need-returns-2 Inv-loop μ-loop
-returns-2 c = number-differs 4 _ _ _ (c .before .before .before .before .before .loop .i) (c .before .before .before .before .before .loop .inv .0) (c .before .before .before .before .loop-test .taken) (c .before .before .before .if1 .left) (omega arith) _ _ (c .before .before .read-be .ensures .0) refl (c .if2 .taken) ∙ c .before .before .before .before .before .loop .inv .1
+returns-2 c =
+    let l = c .before .before .before .before .before .loop in
+    let loop-test = c .before .before .before .before .loop-test in
+    let if1 = c .before .before .before .if1 in
+    let read-be = c .before .before .read-be in
+    number-differs 4 _ _ _ (l .i) (l .inv .0) (loop-test .taken) (if1 .left) (omega arith) _ _ (read-be .ensures .0) refl (c .if2 .taken) ∙ l .inv .1
 
 add-at : tie.Need-add-at Inv-loop μ-loop
 add-at c = search needs
@@ -51,7 +58,14 @@ loop-less : tie.Need-loop-less Inv-loop μ-loop
 loop-less c = search needs
 
 loop-again : tie.Need-loop-again Inv-loop μ-loop
-loop-again c = (omega (arith, c .before .before .before .if1 .left), number-same 4 _ _ _ (c .before .before .before .before .before .loop .i) (c .before .before .before .before .before .loop .inv .0) (c .before .before .before .before .loop-test .taken) (c .before .before .before .if1 .left) (omega arith) _ _ (c .before .before .read-be .ensures .0) refl (c .if2 .left) ∙ c .before .before .before .before .before .loop .inv .1)
+loop-again c =
+    let if1 = c .before .before .before .if1 in
+    let l = c .before .before .before .before .before .loop in
+    let loop-test = c .before .before .before .before .loop-test in
+    let read-be = c .before .before .read-be in (
+      omega (arith, if1 .left),
+      number-same 4 _ _ _ (l .i) (l .inv .0) (loop-test .taken) (if1 .left) (omega arith) _ _ (read-be .ensures .0) refl (c .if2 .left) ∙ l .inv .1,
+    )
 
 returns-3 : tie.Need-returns-3 Inv-loop μ-loop
 returns-3 c = numbers-end 4 _ _ _ (c .before .loop .i) (c .before .loop .inv .0) (omega arith) ∙ c .before .loop .inv .1

@@ -17,7 +17,10 @@ returns-2 : tie.Need-returns-2
 returns-2 c = other-start _ _ _ _ (sym (c .before .before .before .eq .ensures) ∙ not-false _ (c .before .before .if1 .left)) (c .if2 .taken)
 
 returns-3 : tie.Need-returns-3
-returns-3 c = the-end _ _ _ _ (sym (c .before .before .before .before .eq .ensures) ∙ not-false _ (c .before .before .before .if1 .left)) (c .before .if2 .left)
+returns-3 c =
+    let eq = c .before .before .before .before .eq in
+    let if1 = c .before .before .before .if1 in
+    the-end _ _ _ _ (sym (eq .ensures) ∙ not-false _ (if1 .left)) (c .before .if2 .left)
 
 pub same-nak-spec : {M : Type 1} → statement M
 same-nak-spec = tie.close (tie.spec eq-requires returns returns-2 returns-3)

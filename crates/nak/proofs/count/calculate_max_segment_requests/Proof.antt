@@ -22,7 +22,11 @@ least-packet-requires : tie.Need-least-packet-requires
 least-packet-requires c κs = search needs
 
 returns : tie.Need-returns
-returns c = too-small _ _ (passed-directive _ (ap judgedAnswer (sym (c .before .before .enum-told .given .1)) ∙ c .before .before .before .before .judged-directive .ensures)) _ (c .before .least-packet .ensures .0) (c .if1 .taken)
+returns c =
+    let enum-told = c .before .before .enum-told in
+    let judged-directive = c .before .before .before .before .judged-directive in
+    too-small _ _ (passed-directive _ (ap judgedAnswer (sym (enum-told .given .1)) ∙ judged-directive .ensures)) _
+    (c .before .least-packet .ensures .0) (c .if1 .taken)
 
 size-width-requires : tie.Need-size-width-requires
 size-width-requires c κs = search needs
@@ -37,13 +41,27 @@ most-pairs-requires : tie.Need-most-pairs-requires
 most-pairs-requires c κs = search needs
 
 returns-2 : tie.Need-returns-2
-returns-2 c = limited _ _ (passed-directive _ (ap judgedAnswer (sym (c .before .before .before .before .before .enum-told .given .1)) ∙ c .before .before .before .before .before .before .before .judged-directive .ensures)) _ (c .before .before .before .before .least-packet .ensures .0) _ _ (rw (c .before .before .size-width .ensures .0)) (c .before .most-pairs .ensures) (c .before .before .before .if1 .left) (c .if2 .taken)
+returns-2 c =
+    let enum-told = c .before .before .before .before .before .enum-told in
+    let judged-directive = c .before .before .before .before .before .before .before .judged-directive in
+    let least-packet = c .before .before .before .before .least-packet in
+    let size-width = c .before .before .size-width in
+    let if1 = c .before .before .before .if1 in
+    limited _ _ (passed-directive _ (ap judgedAnswer (sym (enum-told .given .1)) ∙ judged-directive .ensures)) _ (least-packet .ensures .0) _ _
+    (rw (size-width .ensures .0)) (c .before .most-pairs .ensures) (if1 .left) (c .if2 .taken)
 
 returns-3 : tie.Need-returns-3
 returns-3 c = refused-count _ _ _ (ap judgedAnswer (sym (c .before .judged .given .1)) ∙ c .before .before .before .judged-directive .ensures)
 
 returns-4 : tie.Need-returns-4
-returns-4 c = counted _ _ (passed-directive _ (ap judgedAnswer (sym (c .before .before .before .before .before .enum-told .given .1)) ∙ c .before .before .before .before .before .before .before .judged-directive .ensures)) _ (c .before .before .before .before .least-packet .ensures .0) _ _ (rw (c .before .before .size-width .ensures .0)) (c .before .most-pairs .ensures) (c .before .before .before .if1 .left) (c .if2 .left)
+returns-4 c =
+    let enum-told = c .before .before .before .before .before .enum-told in
+    let judged-directive = c .before .before .before .before .before .before .before .judged-directive in
+    let least-packet = c .before .before .before .before .least-packet in
+    let size-width = c .before .before .size-width in
+    let if1 = c .before .before .before .if1 in
+    counted _ _ (passed-directive _ (ap judgedAnswer (sym (enum-told .given .1)) ∙ judged-directive .ensures)) _ (least-packet .ensures .0) _ _
+    (rw (size-width .ensures .0)) (c .before .most-pairs .ensures) (if1 .left) (c .if2 .left)
 
 pub calculate-max-segment-requests-spec : {M : Type 1} → statement M
 calculate-max-segment-requests-spec =

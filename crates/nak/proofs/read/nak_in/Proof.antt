@@ -10,13 +10,19 @@ size-width-requires : tie.Need-size-width-requires
 size-width-requires c κs = search needs
 
 offset-at-requires : tie.Need-offset-at-requires
-offset-at-requires c κs = omega (arith, scope-lies (c .before .before .args .header) (c .before .before .args .content .now) (c .before .before .args .area) (c .before .before .args .stop) (c .before .before .pre .0) (c .before .before .pre .2) (c .before .before .pre .3))
+offset-at-requires c κs =
+    let a = c .before .before .args in
+    let pre = c .before .before .pre in
+    omega (arith, scope-lies (a .header) (a .content .now) (a .area) (a .stop) (pre .0) (pre .2) (pre .3))
 
 add-offset-at : tie.Need-add-offset-at
 add-offset-at c = search needs
 
 offset-at-requires-2 : tie.Need-offset-at-requires-2
-offset-at-requires-2 c κs = omega (arith, scope-lies (c .before .before .before .args .header) (c .before .before .before .args .content .now) (c .before .before .before .args .area) (c .before .before .before .args .stop) (c .before .before .before .pre .0) (c .before .before .before .pre .2) (c .before .before .before .pre .3), c .before .size-width .ensures .0)
+offset-at-requires-2 c κs =
+    let a = c .before .before .before .args in
+    let pre = c .before .before .before .pre in
+    omega (arith, scope-lies (a .header) (a .content .now) (a .area) (a .stop) (pre .0) (pre .2) (pre .3), c .before .size-width .ensures .0)
 
 sub-count : tie.Need-sub-count
 sub-count c = search needs
@@ -28,7 +34,10 @@ div-count : tie.Need-div-count
 div-count c = search needs
 
 returns : tie.Need-returns
-returns c = nak-is _ _ _ _ (c .before .before .before .before .pre .0) (c .before .before .before .before .pre .2) (c .before .before .before .before .pre .3) _ _ _ (c .before .before .before .before .pre .1) (c .before .before .size-width .ensures .0) (c .before .offset-at .ensures) (c .offset-at2 .ensures)
+returns c =
+    let pre = c .before .before .before .before .pre in
+    let size-width = c .before .before .size-width in
+    nak-is _ _ _ _ (pre .0) (pre .2) (pre .3) _ _ _ (pre .1) (size-width .ensures .0) (c .before .offset-at .ensures) (c .offset-at2 .ensures)
 
 pub nak-in-spec : {M : Type 1} → statement M
 nak-in-spec =

@@ -34,10 +34,24 @@ returns : tie.Need-returns
 returns c = finish-refused _ _ _ _ _ _ (ap dataAnswer (sym (c .before .length .given .1)) ∙ c .before .before .before .pairs-length .ensures)
 
 returns-2 : tie.Need-returns-2
-returns-2 c = let p = passed (tooMany (c .before .before .before .before .before .before .before .before .args .file) (c .before .before .before .before .before .before .before .before .args .pairs) ∷ []) _ (dataLength (c .before .before .before .before .before .before .before .before .args .file) (c .before .before .before .before .before .before .before .before .args .crc) (c .before .before .before .before .before .before .before .before .args .pairs)) (ap dataAnswer (sym (c .before .before .before .before .before .length2 .given .1)) ∙ c .before .before .before .before .before .before .before .pairs-length .ensures) in finish-scope _ _ _ _ _ (p .0) _ (ap judgedAnswer (sym (c .before .scope .given .1)) ∙ c .before .before .before .judge-scope .ensures)
+returns-2 c =
+    let a = c .before .before .before .before .before .before .before .before .args in
+    let length2 = c .before .before .before .before .before .length2 in
+    let pairs-length = c .before .before .before .before .before .before .before .pairs-length in
+    let judge-scope = c .before .before .before .judge-scope in
+    let p = passed (tooMany (a .file) (a .pairs) ∷ []) _ (dataLength (a .file) (a .crc) (a .pairs))
+    (ap dataAnswer (sym (length2 .given .1)) ∙ pairs-length .ensures) in
+    finish-scope _ _ _ _ _ (p .0) _ (ap judgedAnswer (sym (c .before .scope .given .1)) ∙ judge-scope .ensures)
 
 returns-3 : tie.Need-returns-3
-returns-3 c = let p = passed (tooMany (c .before .before .before .before .before .before .before .args .file) (c .before .before .before .before .before .before .before .args .pairs) ∷ []) _ (dataLength (c .before .before .before .before .before .before .before .args .file) (c .before .before .before .before .before .before .before .args .crc) (c .before .before .before .before .before .before .before .args .pairs)) (ap dataAnswer (sym (c .before .before .before .before .length2 .given .1)) ∙ c .before .before .before .before .before .before .pairs-length .ensures) in ap accepted (p .1) ∙ finish-passes _ _ _ _ _ (p .0) (ap judgedAnswer (sym (c .enum-told .given .1)) ∙ c .before .before .judge-scope .ensures)
+returns-3 c =
+    let a = c .before .before .before .before .before .before .before .args in
+    let length2 = c .before .before .before .before .length2 in
+    let pairs-length = c .before .before .before .before .before .before .pairs-length in
+    let judge-scope = c .before .before .judge-scope in
+    let p = passed (tooMany (a .file) (a .pairs) ∷ []) _ (dataLength (a .file) (a .crc) (a .pairs))
+    (ap dataAnswer (sym (length2 .given .1)) ∙ pairs-length .ensures) in
+    ap accepted (p .1) ∙ finish-passes _ _ _ _ _ (p .0) (ap judgedAnswer (sym (c .enum-told .given .1)) ∙ judge-scope .ensures)
 
 pub finished-length-spec : {M : Type 1} → statement M
 finished-length-spec =

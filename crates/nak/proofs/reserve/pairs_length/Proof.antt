@@ -21,13 +21,24 @@ enum-told : tie.Need-enum-told
 enum-told c = search needs
 
 length-of-requires : tie.Need-length-of-requires
-length-of-requires c κs = pairs-fit (c .before .before .before .args .file) (c .before .before .before .args .pairs) (judged-passed (tooMany (c .before .before .before .args .file) (c .before .before .before .args .pairs) ∷ []) (ap judgedAnswer (sym (c .enum-told .given .1)) ∙ c .before .before .judge-pairs .ensures))
+length-of-requires c κs =
+    let a = c .before .before .before .args in
+    let judge-pairs = c .before .before .judge-pairs in
+    pairs-fit (a .file) (a .pairs)
+    (judged-passed (tooMany (a .file) (a .pairs) ∷ []) (ap judgedAnswer (sym (c .enum-told .given .1)) ∙ judge-pairs .ensures))
 
 returns : tie.Need-returns
-returns c = reserve-refused _ (c .before .before .before .before .args .file) (c .before .before .before .before .args .pairs) _ (ap judgedAnswer (sym (c .before .few .given .1)) ∙ c .before .before .before .judge-pairs .ensures)
+returns c =
+    let a = c .before .before .before .before .args in
+    let judge-pairs = c .before .before .before .judge-pairs in
+    reserve-refused _ (a .file) (a .pairs) _ (ap judgedAnswer (sym (c .before .few .given .1)) ∙ judge-pairs .ensures)
 
 returns-2 : tie.Need-returns-2
-returns-2 c = ap accepted (c .length-of .ensures) ∙ reserve-passes _ (c .before .before .before .before .args .file) (c .before .before .before .before .args .pairs) (ap judgedAnswer (sym (c .before .enum-told .given .1)) ∙ c .before .before .before .judge-pairs .ensures)
+returns-2 c =
+    let a = c .before .before .before .before .args in
+    let judge-pairs = c .before .before .before .judge-pairs in
+    ap accepted (c .length-of .ensures)
+    ∙ reserve-passes _ (a .file) (a .pairs) (ap judgedAnswer (sym (c .before .enum-told .given .1)) ∙ judge-pairs .ensures)
 
 pub pairs-length-spec : {M : Type 1} → statement M
 pairs-length-spec =

@@ -22,7 +22,10 @@ enum-known-scope : tie.Need-enum-known-scope
 enum-known-scope c = search needs
 
 returns-2 : tie.Need-returns-2
-returns-2 c = bad-scope _ _ _ _ _ (c .before .before .before .before .if1 .left) _ (ap judgedAnswer (sym (c .before .scope .given .1)) ∙ c .before .before .before .judge-scope .ensures)
+returns-2 c =
+    let if1 = c .before .before .before .before .if1 in
+    let judge-scope = c .before .before .before .judge-scope in
+    bad-scope _ _ _ _ _ (if1 .left) _ (ap judgedAnswer (sym (c .before .scope .given .1)) ∙ judge-scope .ensures)
 
 enum-told : tie.Need-enum-told
 enum-told c = search needs
@@ -34,16 +37,33 @@ enum-known-few : tie.Need-enum-known-few
 enum-known-few c = search needs
 
 returns-3 : tie.Need-returns-3
-returns-3 c = too-many _ _ _ _ _ (c .before .before .before .before .before .before .before .if1 .left) (ap judgedAnswer (sym (c .before .before .before .before .enum-told .given .1)) ∙ c .before .before .before .before .before .before .judge-scope .ensures) _ (ap judgedAnswer (sym (c .before .few .given .1)) ∙ c .before .before .before .judge-pairs .ensures)
+returns-3 c =
+    let if1 = c .before .before .before .before .before .before .before .if1 in
+    let enum-told = c .before .before .before .before .enum-told in
+    let judge-scope = c .before .before .before .before .before .before .judge-scope in
+    let judge-pairs = c .before .before .before .judge-pairs in
+    too-many _ _ _ _ _ (if1 .left) (ap judgedAnswer (sym (enum-told .given .1)) ∙ judge-scope .ensures) _
+    (ap judgedAnswer (sym (c .before .few .given .1)) ∙ judge-pairs .ensures)
 
 enum-told-2 : tie.Need-enum-told-2
 enum-told-2 c = search needs
 
 length-of-requires : tie.Need-length-of-requires
-length-of-requires c κs = pairs-fit (c .before .before .before .before .before .before .before .args .file) (c .before .before .before .before .before .before .before .args .count / 2) (judged-passed (tooMany (c .before .before .before .before .before .before .before .args .file) (c .before .before .before .before .before .before .before .args .count / 2) ∷ []) (ap judgedAnswer (sym (c .enum-told2 .given .1)) ∙ c .before .before .judge-pairs .ensures))
+length-of-requires c κs =
+    let a = c .before .before .before .before .before .before .before .args in
+    let judge-pairs = c .before .before .judge-pairs in
+    pairs-fit (a .file) (a .count / 2)
+    (judged-passed (tooMany (a .file) (a .count / 2) ∷ []) (ap judgedAnswer (sym (c .enum-told2 .given .1)) ∙ judge-pairs .ensures))
 
 returns-4 : tie.Need-returns-4
-returns-4 c = ap accepted (c .length-of .ensures) ∙ none-holds _ _ _ _ _ (c .before .before .before .before .before .before .before .if1 .left) (ap judgedAnswer (sym (c .before .before .before .before .enum-told .given .1)) ∙ c .before .before .before .before .before .before .judge-scope .ensures) (ap judgedAnswer (sym (c .before .enum-told2 .given .1)) ∙ c .before .before .before .judge-pairs .ensures)
+returns-4 c =
+    let if1 = c .before .before .before .before .before .before .before .if1 in
+    let enum-told = c .before .before .before .before .enum-told in
+    let judge-scope = c .before .before .before .before .before .before .judge-scope in
+    let judge-pairs = c .before .before .before .judge-pairs in
+    ap accepted (c .length-of .ensures)
+    ∙ none-holds _ _ _ _ _ (if1 .left) (ap judgedAnswer (sym (enum-told .given .1)) ∙ judge-scope .ensures)
+    (ap judgedAnswer (sym (c .before .enum-told2 .given .1)) ∙ judge-pairs .ensures)
 
 pub data-length-spec : {M : Type 1} → statement M
 data-length-spec =

@@ -25,16 +25,28 @@ add-wide : tie.Need-add-wide
 add-wide c = search needs
 
 mul-wide : tie.Need-mul-wide
-mul-wide c = omega (arith, pairs-bytes (c .before .before .args .file) (c .before .before .args .pairs) (c .before .size-width .result) (c .before .before .pre) (c .before .size-width .ensures .0))
+mul-wide c =
+    let a = c .before .before .args in
+    let pre = c .before .before .pre in
+    omega (arith, pairs-bytes (a .file) (a .pairs) (c .before .size-width .result) pre (c .before .size-width .ensures .0))
 
 add-wide-2 : tie.Need-add-wide-2
-add-wide-2 c = omega (arith, pairs-bytes (c .before .before .args .file) (c .before .before .args .pairs) (c .before .size-width .result) (c .before .before .pre) (c .before .size-width .ensures .0))
+add-wide-2 c =
+    let a = c .before .before .args in
+    let pre = c .before .before .pre in
+    omega (arith, pairs-bytes (a .file) (a .pairs) (c .before .size-width .result) pre (c .before .size-width .ensures .0))
 
 add-wide-3 : tie.Need-add-wide-3
-add-wide-3 c = omega (arith, pairs-bytes (c .before .before .args .file) (c .before .before .args .pairs) (c .before .size-width .result) (c .before .before .pre) (c .before .size-width .ensures .0))
+add-wide-3 c =
+    let a = c .before .before .args in
+    let pre = c .before .before .pre in
+    omega (arith, pairs-bytes (a .file) (a .pairs) (c .before .size-width .result) pre (c .before .size-width .ensures .0))
 
 cast-result : tie.Need-cast-result
-cast-result c = omega (arith, pairs-bytes (c .before .before .args .file) (c .before .before .args .pairs) (c .before .size-width .result) (c .before .before .pre) (c .before .size-width .ensures .0))
+cast-result c =
+    let a = c .before .before .args in
+    let pre = c .before .before .pre in
+    omega (arith, pairs-bytes (a .file) (a .pairs) (c .before .size-width .result) pre (c .before .size-width .ensures .0))
 
 returns : tie.Need-returns
 returns c = data-is _ _ _ _ _ (c .before .size-width .ensures .0) (c .bit .ensures .0)

@@ -59,10 +59,13 @@ loop-less c = search needs
 
 loop-again : tie.Need-loop-again Inv-loop μ-loop
 loop-again c =
+    let shared-slice-known2 = c .before .before .before .shared-slice-known2 in
+    let write-be = c .before .before .write-be in
     let l = c .before .before .before .before .before .before .loop in
     let a = c .before .before .before .before .before .before .before .before .before .args in
-    let f = c .before .before .before .shared-slice-known2 .given (l .i) in
-    let p = part-put (l .buf) _ (a .at + 8 * l .i) 8 (a .at + 8 * l .i + 8) _ refl (omega arith) (omega arith) (omega (arith, f)) (c .before .before .write-be .ensures) in (
+    let f = shared-slice-known2 .given (l .i) in
+    let p = part-put (l .buf) _ (a .at + 8 * l .i) 8 (a .at + 8 * l .i + 8) _ refl (omega arith) (omega arith) (omega (arith, f))
+    (write-be .ensures) in (
       omega arith,
       ap length p ∙ put-length _ _ _ _ ∙ l .inv .1,
       number-turn 8 (a .at) (l .i) _ (l .buf) _ (a .numbers .now) (omega arith) (omega arith) (omega arith) refl (omega (arith, f)) p ∙ l .inv .2,

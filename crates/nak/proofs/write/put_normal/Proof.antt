@@ -63,26 +63,33 @@ loop-less c = search needs
 
 loop-again : tie.Need-loop-again Inv-loop μ-loop
 loop-again c =
+    let shared-slice-known = c .before .before .before .before .before .before .before .before .shared-slice-known in
+    let write-be = c .before .before .write-be in
     let l = c .before .before .before .before .before .before .before .loop in
     let a = c .before .before .before .before .before .before .before .before .before .before .args in
-    let first = c .before .before .before .before .before .before .before .before .shared-slice-known .given (2 * l .i) in
-    let second = c .before .before .before .before .before .before .before .before .shared-slice-known .given (2 * l .i + 1) in
+    let first = shared-slice-known .given (2 * l .i) in
+    let second = shared-slice-known .given (2 * l .i + 1) in
     let two = c .before .before .before .before .before .two-at .ensures in
     let pair = c .before .before .before .before .exchanged .ensures in
     let x = getD (a .numbers .now) (2 * l .i) 0 in
     let y = getD (a .numbers .now) (2 * l .i + 1) 0 in
     let is = exchanged-pair 4294967296 x y _ _ (omega (arith, first)) (omega (arith, second)) two pair in
-    let p = part-put (l .buf) _ (a .at + 8 * l .i) 8 (a .at + 8 * l .i + 8) _ refl (omega arith) (omega arith) (is .1) (c .before .before .write-be .ensures) in (
+    let p = part-put (l .buf) _ (a .at + 8 * l .i) 8 (a .at + 8 * l .i + 8) _ refl (omega arith) (omega arith) (is .1) (write-be .ensures) in (
       omega arith,
       ap length p ∙ put-length _ _ _ _ ∙ l .inv .1,
-      pair-turn 4 (a .at) (2 * l .i) (2 * (l .i + 1)) (a .at + 8 * l .i) x y _ (l .buf) _ (a .numbers .now) (omega arith) (omega arith) (omega arith) (omega arith) (omega arith) refl (ap (λ (n : ℕ). getD (a .numbers .now) n 0) (add-one _)) (omega (arith, second)) (is .0) (is .1) p ∙ l .inv .2,
+      pair-turn 4 (a .at) (2 * l .i) (2 * (l .i + 1)) (a .at + 8 * l .i) x y _ (l .buf) _ (a .numbers .now) (omega arith) (omega arith)
+          (omega arith) (omega arith) (omega arith) refl (ap (λ (n : ℕ). getD (a .numbers .now) n 0) (add-one _)) (omega (arith, second))
+          (is .0) (is .1) p
+          ∙ l .inv .2,
     )
 
 same-length : tie.Need-same-length Inv-loop μ-loop
 same-length c = search needs
 
 returns : tie.Need-returns Inv-loop μ-loop
-returns c = (numbers-done 4 _ (2 * c .before .loop .i) _ _ _ (omega (arith, c .before .before .before .before .pre .1)) (c .before .loop .inv .2), c .before .loop .inv .1)
+returns c =
+    let pre = c .before .before .before .before .pre in
+    (numbers-done 4 _ (2 * c .before .loop .i) _ _ _ (omega (arith, pre .1)) (c .before .loop .inv .2), c .before .loop .inv .1)
 
 pub put-normal-spec : {M : Type 1} → statement M
 put-normal-spec =

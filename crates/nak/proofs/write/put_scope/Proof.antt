@@ -35,7 +35,15 @@ same-length : tie.Need-same-length
 same-length c = search needs
 
 returns : tie.Need-returns
-returns c = scope-stored _ _ _ _ _ _ _ _ _ (c .before .before .before .before .before .before .before .before .before .before .before .before .before .before .before .pre .0) (scope-passed _ _ _ (omega arith) (omega arith) (c .before .before .before .before .before .before .before .before .before .before .before .before .before .before .before .pre .1)) (c .before .before .before .before .before .before .before .before .before .before .before .before .before .header-len .ensures .0) (c .before .before .before .before .before .before .before .before .before .before .before .before .size-width .ensures .0) (omega arith) (c .before .before .before .before .before .before .before .before .before .before .write-be .ensures) (c .before .before .before .before .before .before .write-be2 .ensures) (c .before .before .write-be3 .ensures)
+returns c =
+    let pre = c .before .before .before .before .before .before .before .before .before .before .before .before .before .before .before .pre in
+    let header-len = c .before .before .before .before .before .before .before .before .before .before .before .before .before .header-len in
+    let size-width = c .before .before .before .before .before .before .before .before .before .before .before .before .size-width in
+    let write-be = c .before .before .before .before .before .before .before .before .before .before .write-be in
+    let write-be2 = c .before .before .before .before .before .before .write-be2 in
+    let write-be3 = c .before .before .write-be3 in
+    scope-stored _ _ _ _ _ _ _ _ _ (pre .0) (scope-passed _ _ _ (omega arith) (omega arith) (pre .1)) (header-len .ensures .0)
+    (size-width .ensures .0) (omega arith) (write-be .ensures) (write-be2 .ensures) (write-be3 .ensures)
 
 pub put-scope-spec : {M : Type 1} → statement M
 put-scope-spec =

@@ -31,7 +31,9 @@ mul-result : tie.Need-mul-result
 mul-result c = omega (arith, c .shared-slice-known2 .given (c .before .before .args .i + 1))
 
 add-result : tie.Need-add-result
-add-result c = omega (arith, c .shared-slice-known2 .given (c .before .before .args .i + 1), c .before .shared-slice-known .given (c .before .before .args .i))
+add-result c =
+    let a = c .before .before .args in
+    omega (arith, c .shared-slice-known2 .given (a .i + 1), c .before .shared-slice-known .given (a .i))
 
 returns : tie.Need-returns
 returns c = search needs

@@ -17,13 +17,19 @@ enum-known-judged-2 : tie.Need-enum-known-judged-2
 enum-known-judged-2 c = search needs
 
 accepted-requires : tie.Need-accepted-requires
-accepted-requires c κs = let g = good _ _ _ _ _ _ _ (ap countAnswer (sym (c .before .judged2 .given .1)) ∙ c .before .before .before .judge .ensures) in (g .are-apart, g .forwards)
+accepted-requires c κs =
+    let judge = c .before .before .before .judge in
+    let g = good _ _ _ _ _ _ _ (ap countAnswer (sym (c .before .judged2 .given .1)) ∙ judge .ensures) in
+    (g .are-apart, g .forwards)
 
 returns : tie.Need-returns
 returns c = check-refused _ _ _ _ _ _ _ _ (ap countAnswer (sym (c .before .judged .given .1)) ∙ c .before .before .before .judge .ensures)
 
 returns-2 : tie.Need-returns-2
-returns-2 c = check-made _ _ _ _ _ _ _ _ _ (ap countAnswer (sym (c .before .before .judged2 .given .1)) ∙ c .before .before .before .before .judge .ensures) (c .accepted .ensures)
+returns-2 c =
+    let judged2 = c .before .before .judged2 in
+    let judge = c .before .before .before .before .judge in
+    check-made _ _ _ _ _ _ _ _ _ (ap countAnswer (sym (judged2 .given .1)) ∙ judge .ensures) (c .accepted .ensures)
 
 pub check-plan-spec : {M : Type 1} → statement M
 check-plan-spec =

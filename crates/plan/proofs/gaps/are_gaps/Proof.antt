@@ -27,13 +27,26 @@ sub-result : tie.Need-sub-result Inv-loop μ-loop
 sub-result c = search needs
 
 returns : tie.Need-returns Inv-loop μ-loop
-returns c = let l = c .before .before .before .loop in let a = c .before .before .before .before .before .before .args in let g = c .before .before .next-gap in sym (same-end (a .requests .now) (l .k) (gaps (l .at) (a .stop) (twos (drop (l .i) (a .received .now)))) _ _ _ (g .ensures .0) (c .if1 .taken)) ∙ l .inv .2
+returns c =
+    let l = c .before .before .before .loop in
+    let a = c .before .before .before .before .before .before .args in
+    let g = c .before .before .next-gap in
+    sym
+    (same-end (a .requests .now) (l .k) (gaps (l .at) (a .stop) (twos (drop (l .i) (a .received .now)))) _ _ _ (g .ensures .0) (c .if1 .taken))
+    ∙ l .inv .2
 
 sub-if2 : tie.Need-sub-if2 Inv-loop μ-loop
 sub-if2 c = search needs
 
 returns-2 : tie.Need-returns-2 Inv-loop μ-loop
-returns-2 c = let l = c .before .before .before .before .loop in let a = c .before .before .before .before .before .before .before .args in let g = c .before .before .before .next-gap in sym (same-lack (a .requests .now) (l .k) (gaps (l .at) (a .stop) (twos (drop (l .i) (a .received .now)))) _ _ _ (g .ensures .0) (c .before .if1 .left) (c .if2 .taken)) ∙ l .inv .2
+returns-2 c =
+    let l = c .before .before .before .before .loop in
+    let a = c .before .before .before .before .before .before .before .args in
+    let g = c .before .before .before .next-gap in
+    sym
+    (same-lack (a .requests .now) (l .k) (gaps (l .at) (a .stop) (twos (drop (l .i) (a .received .now)))) _ _ _ (g .ensures .0)
+    (c .before .if1 .left) (c .if2 .taken))
+    ∙ l .inv .2
 
 mul-if3 : tie.Need-mul-if3 Inv-loop μ-loop
 mul-if3 c = search needs
@@ -42,7 +55,16 @@ shared-slice-read-if3 : tie.Need-shared-slice-read-if3 Inv-loop μ-loop
 shared-slice-read-if3 c = search needs
 
 returns-3 : tie.Need-returns-3 Inv-loop μ-loop
-returns-3 c = let l = c .before .before .before .before .before .before .before .loop in let a = c .before .before .before .before .before .before .before .before .before .before .args in let g = c .before .before .before .before .before .before .next-gap in sym (same-from (a .requests .now) (l .k) (gaps (l .at) (a .stop) (twos (drop (l .i) (a .received .now)))) _ _ _ (g .ensures .0) (c .before .before .before .before .if1 .left) (c .before .before .before .if2 .left) (c .if3 .taken)) ∙ l .inv .2
+returns-3 c =
+    let if1 = c .before .before .before .before .if1 in
+    let if2 = c .before .before .before .if2 in
+    let l = c .before .before .before .before .before .before .before .loop in
+    let a = c .before .before .before .before .before .before .before .before .before .before .args in
+    let g = c .before .before .before .before .before .before .next-gap in
+    sym
+    (same-from (a .requests .now) (l .k) (gaps (l .at) (a .stop) (twos (drop (l .i) (a .received .now)))) _ _ _ (g .ensures .0) (if1 .left)
+    (if2 .left) (c .if3 .taken))
+    ∙ l .inv .2
 
 add-if4 : tie.Need-add-if4 Inv-loop μ-loop
 add-if4 c = search needs
@@ -54,7 +76,16 @@ shared-slice-read-if4 : tie.Need-shared-slice-read-if4 Inv-loop μ-loop
 shared-slice-read-if4 c = search needs
 
 returns-4 : tie.Need-returns-4 Inv-loop μ-loop
-returns-4 c = let l = c .before .before .before .before .before .before .before .before .before .before .loop in let a = c .before .before .before .before .before .before .before .before .before .before .before .before .before .args in let g = c .before .before .before .before .before .before .before .before .before .next-gap in sym (same-to (a .requests .now) (l .k) (gaps (l .at) (a .stop) (twos (drop (l .i) (a .received .now)))) _ _ _ (g .ensures .0) (c .before .before .before .before .before .before .before .if1 .left) (c .before .before .before .before .before .before .if2 .left) (c .if4 .taken)) ∙ l .inv .2
+returns-4 c =
+    let if1 = c .before .before .before .before .before .before .before .if1 in
+    let if2 = c .before .before .before .before .before .before .if2 in
+    let l = c .before .before .before .before .before .before .before .before .before .before .loop in
+    let a = c .before .before .before .before .before .before .before .before .before .before .before .before .before .args in
+    let g = c .before .before .before .before .before .before .before .before .before .next-gap in
+    sym
+    (same-to (a .requests .now) (l .k) (gaps (l .at) (a .stop) (twos (drop (l .i) (a .received .now)))) _ _ _ (g .ensures .0) (if1 .left)
+    (if2 .left) (c .if4 .taken))
+    ∙ l .inv .2
 
 add-k : tie.Need-add-k Inv-loop μ-loop
 add-k c = search needs
@@ -63,7 +94,20 @@ loop-less : tie.Need-loop-less Inv-loop μ-loop
 loop-less c = search needs
 
 loop-again : tie.Need-loop-again Inv-loop μ-loop
-loop-again c = let l = c .before .before .before .before .before .before .before .before .before .before .loop in let a = c .before .before .before .before .before .before .before .before .before .before .before .before .before .args in let g = c .before .before .before .before .before .before .before .before .before .next-gap in (g .ensures .1, omega arith, sym (same-on (a .requests .now) (l .k) (gaps (l .at) (a .stop) (twos (drop (l .i) (a .received .now)))) _ _ _ (g .ensures .0) (c .before .before .before .before .before .before .before .if1 .left) (c .before .before .before .before .before .before .if2 .left) (c .before .before .before .if3 .left) (c .if4 .left)) ∙ l .inv .2)
+loop-again c =
+    let if1 = c .before .before .before .before .before .before .before .if1 in
+    let if2 = c .before .before .before .before .before .before .if2 in
+    let if3 = c .before .before .before .if3 in
+    let l = c .before .before .before .before .before .before .before .before .before .before .loop in
+    let a = c .before .before .before .before .before .before .before .before .before .before .before .before .before .args in
+    let g = c .before .before .before .before .before .before .before .before .before .next-gap in (
+      g .ensures .1,
+      omega arith,
+      sym
+          (same-on (a .requests .now) (l .k) (gaps (l .at) (a .stop) (twos (drop (l .i) (a .received .now)))) _ _ _ (g .ensures .0) (if1 .left)
+          (if2 .left) (if3 .left) (c .if4 .left))
+          ∙ l .inv .2,
+    )
 
 pub are-gaps-spec : {M : Type 1} → statement M
 are-gaps-spec =

@@ -24,16 +24,37 @@ next-gap-requires : tie.Need-next-gap-requires Inv-loop μ-loop
 next-gap-requires c κs = search needs
 
 returns : tie.Need-returns Inv-loop μ-loop
-returns c = let l = c .before .before .before .loop in let a = c .before .before .before .before .before .args in let g = c .before .before .next-gap in let e = g .ensures .0 in let z = count-none (gaps (l .at) (a .stop) (twos (drop (l .i) (a .received .now)))) (g .result .from) (g .result .to) (gaps (g .result .at) (a .stop) (twos (drop (g .result .next) (a .received .now)))) e (c .if1 .taken) in (omega (arith, z, l .inv .1), omega (arith, z, l .inv .1, numbers-few (a .start) (a .stop) (a .received .now)))
+returns c =
+    let l = c .before .before .before .loop in
+    let a = c .before .before .before .before .before .args in
+    let g = c .before .before .next-gap in
+    let e = g .ensures .0 in
+    let z = count-none (gaps (l .at) (a .stop) (twos (drop (l .i) (a .received .now)))) (g .result .from) (g .result .to)
+    (gaps (g .result .at) (a .stop) (twos (drop (g .result .next) (a .received .now)))) e (c .if1 .taken) in
+    (omega (arith, z, l .inv .1), omega (arith, z, l .inv .1, numbers-few (a .start) (a .stop) (a .received .now)))
 
 add-n : tie.Need-add-n Inv-loop μ-loop
-add-n c = let l = c .before .before .before .loop in let a = c .before .before .before .before .before .args in let g = c .before .before .next-gap in let e = g .ensures .0 in let z = count-one (gaps (l .at) (a .stop) (twos (drop (l .i) (a .received .now)))) (g .result .from) (g .result .to) (gaps (g .result .at) (a .stop) (twos (drop (g .result .next) (a .received .now)))) e (c .if1 .left) in record { fits = omega (arith, z, l .inv .1, numbers-few (a .start) (a .stop) (a .received .now)) }
+add-n c =
+    let l = c .before .before .before .loop in
+    let a = c .before .before .before .before .before .args in
+    let g = c .before .before .next-gap in
+    let e = g .ensures .0 in
+    let z = count-one (gaps (l .at) (a .stop) (twos (drop (l .i) (a .received .now)))) (g .result .from) (g .result .to)
+    (gaps (g .result .at) (a .stop) (twos (drop (g .result .next) (a .received .now)))) e (c .if1 .left) in
+    record { fits = omega (arith, z, l .inv .1, numbers-few (a .start) (a .stop) (a .received .now)) }
 
 loop-less : tie.Need-loop-less Inv-loop μ-loop
 loop-less c = c .before .before .next-gap .ensures .2 (c .if1 .left)
 
 loop-again : tie.Need-loop-again Inv-loop μ-loop
-loop-again c = let l = c .before .before .before .loop in let a = c .before .before .before .before .before .args in let g = c .before .before .next-gap in let e = g .ensures .0 in let z = count-one (gaps (l .at) (a .stop) (twos (drop (l .i) (a .received .now)))) (g .result .from) (g .result .to) (gaps (g .result .at) (a .stop) (twos (drop (g .result .next) (a .received .now)))) e (c .if1 .left) in (g .ensures .1, omega (arith, z, l .inv .1))
+loop-again c =
+    let l = c .before .before .before .loop in
+    let a = c .before .before .before .before .before .args in
+    let g = c .before .before .next-gap in
+    let e = g .ensures .0 in
+    let z = count-one (gaps (l .at) (a .stop) (twos (drop (l .i) (a .received .now)))) (g .result .from) (g .result .to)
+    (gaps (g .result .at) (a .stop) (twos (drop (g .result .next) (a .received .now)))) e (c .if1 .left) in
+    (g .ensures .1, omega (arith, z, l .inv .1))
 
 pub count-gaps-spec : {M : Type 1} → statement M
 count-gaps-spec =

@@ -48,16 +48,41 @@ add-next : tie.Need-add-next Inv-loop μ-loop
 add-next c = search needs
 
 returns : tie.Need-returns Inv-loop μ-loop
-returns c = let l = c .before .before .before .before .before .before .loop in let a = c .before .before .before .before .before .before .before .before .args in let g = (greater-least (l .at) (getD (a .received .now) (l .i + 1) 0) (c .before .greater .result) (c .before .greater .ensures)) in (sym (l .inv .1) ∙ gap-found (a .received .now) (l .i) (l .at) (a .stop) (c .before .before .before .before .before .loop-test .taken) _ _ (c .before .before .before .lesser .ensures) (c .before .greater .ensures) (c .if1 .taken), omega arith, λ k. omega (arith, g, l .inv .2, c .before .before .before .before .before .loop-test .taken))
+returns c =
+    let loop-test = c .before .before .before .before .before .loop-test in
+    let lesser = c .before .before .before .lesser in
+    let l = c .before .before .before .before .before .before .loop in
+    let a = c .before .before .before .before .before .before .before .before .args in
+    let g = (greater-least (l .at) (getD (a .received .now) (l .i + 1) 0) (c .before .greater .result) (c .before .greater .ensures)) in (
+      sym (l .inv .1)
+          ∙ gap-found (a .received .now) (l .i) (l .at) (a .stop) (loop-test .taken) _ _ (lesser .ensures) (c .before .greater .ensures)
+          (c .if1 .taken),
+      omega arith,
+      λ k. omega (arith, g, l .inv .2, loop-test .taken),
+    )
 
 loop-less : tie.Need-loop-less Inv-loop μ-loop
 loop-less c = search needs
 
 loop-again : tie.Need-loop-again Inv-loop μ-loop
-loop-again c = let l = c .before .before .before .before .before .before .loop in let a = c .before .before .before .before .before .before .before .before .args in let g = (greater-least (l .at) (getD (a .received .now) (l .i + 1) 0) (c .before .greater .result) (c .before .greater .ensures)) in (omega arith, sym (gap-covered (a .received .now) (l .i) (l .at) (a .stop) (c .before .before .before .before .before .loop-test .taken) _ _ (c .before .before .before .lesser .ensures) (c .before .greater .ensures) (c .if1 .left)) ∙ l .inv .1, omega (arith, g, l .inv .2, c .before .before .before .before .before .loop-test .taken))
+loop-again c =
+    let loop-test = c .before .before .before .before .before .loop-test in
+    let lesser = c .before .before .before .lesser in
+    let l = c .before .before .before .before .before .before .loop in
+    let a = c .before .before .before .before .before .before .before .before .args in
+    let g = (greater-least (l .at) (getD (a .received .now) (l .i + 1) 0) (c .before .greater .result) (c .before .greater .ensures)) in (
+      omega arith,
+      sym
+          (gap-covered (a .received .now) (l .i) (l .at) (a .stop) (loop-test .taken) _ _ (lesser .ensures) (c .before .greater .ensures) (c .if1 .left))
+          ∙ l .inv .1,
+      omega (arith, g, l .inv .2, loop-test .taken),
+    )
 
 returns-2 : tie.Need-returns-2 Inv-loop μ-loop
-returns-2 c = let l = c .before .loop in let a = c .before .before .before .args in (sym (l .inv .1) ∙ gap-last (a .received .now) (l .i) (l .at) (a .stop) (c .loop-test .left), search needs, λ k. omega (arith, l .inv .2))
+returns-2 c =
+    let l = c .before .loop in
+    let a = c .before .before .before .args in
+    (sym (l .inv .1) ∙ gap-last (a .received .now) (l .i) (l .at) (a .stop) (c .loop-test .left), search needs, λ k. omega (arith, l .inv .2))
 
 pub next-gap-spec : {M : Type 1} → statement M
 next-gap-spec =

@@ -30,19 +30,59 @@ same-length : tie.Need-same-length Inv-loop μ-loop
 same-length c = search needs
 
 returns : tie.Need-returns Inv-loop μ-loop
-returns c = let l = c .before .before .before .loop in let a = c .before .before .before .before .before .before .args in let g = c .before .before .next-gap in let e = g .ensures .0 in sym (store-none (gaps (l .at) (a .stop) (twos (drop (l .i) (a .received .now)))) (g .result .from) (g .result .to) (gaps (g .result .at) (a .stop) (twos (drop (g .result .next) (a .received .now)))) e (l .out) (l .k) (c .if1 .taken)) ∙ l .inv .3
+returns c =
+    let l = c .before .before .before .loop in
+    let a = c .before .before .before .before .before .before .args in
+    let g = c .before .before .next-gap in
+    let e = g .ensures .0 in
+    sym
+    (store-none (gaps (l .at) (a .stop) (twos (drop (l .i) (a .received .now)))) (g .result .from) (g .result .to)
+    (gaps (g .result .at) (a .stop) (twos (drop (g .result .next) (a .received .now)))) e (l .out) (l .k) (c .if1 .taken))
+    ∙ l .inv .3
 
 put-pair-requires : tie.Need-put-pair-requires Inv-loop μ-loop
-put-pair-requires c κs = let l = c .before .before .before .before .loop in let a = c .before .before .before .before .before .before .before .args in let g = c .before .before .before .next-gap in let e = g .ensures .0 in let z = count-one (gaps (l .at) (a .stop) (twos (drop (l .i) (a .received .now)))) (g .result .from) (g .result .to) (gaps (g .result .at) (a .stop) (twos (drop (g .result .next) (a .received .now)))) e (c .before .if1 .left) in omega (arith, z, l .inv .2)
+put-pair-requires c κs =
+    let l = c .before .before .before .before .loop in
+    let a = c .before .before .before .before .before .before .before .args in
+    let g = c .before .before .before .next-gap in
+    let e = g .ensures .0 in
+    let z = count-one (gaps (l .at) (a .stop) (twos (drop (l .i) (a .received .now)))) (g .result .from) (g .result .to)
+    (gaps (g .result .at) (a .stop) (twos (drop (g .result .next) (a .received .now)))) e (c .before .if1 .left) in
+    omega (arith, z, l .inv .2)
 
 add-k : tie.Need-add-k Inv-loop μ-loop
-add-k c = let l = c .before .before .before .before .before .before .before .loop in let a = c .before .before .before .before .before .before .before .before .before .before .args in let g = c .before .before .before .before .before .before .next-gap in let e = g .ensures .0 in let z = count-one (gaps (l .at) (a .stop) (twos (drop (l .i) (a .received .now)))) (g .result .from) (g .result .to) (gaps (g .result .at) (a .stop) (twos (drop (g .result .next) (a .received .now)))) e (c .before .before .before .before .if1 .left) in record { fits = omega (arith, z, l .inv .2) }
+add-k c =
+    let if1 = c .before .before .before .before .if1 in
+    let l = c .before .before .before .before .before .before .before .loop in
+    let a = c .before .before .before .before .before .before .before .before .before .before .args in
+    let g = c .before .before .before .before .before .before .next-gap in
+    let e = g .ensures .0 in
+    let z = count-one (gaps (l .at) (a .stop) (twos (drop (l .i) (a .received .now)))) (g .result .from) (g .result .to)
+    (gaps (g .result .at) (a .stop) (twos (drop (g .result .next) (a .received .now)))) e (if1 .left) in
+    record { fits = omega (arith, z, l .inv .2) }
 
 loop-less : tie.Need-loop-less Inv-loop μ-loop
 loop-less c = c .before .before .before .before .before .before .next-gap .ensures .2 (c .before .before .before .before .if1 .left)
 
 loop-again : tie.Need-loop-again Inv-loop μ-loop
-loop-again c = let l = c .before .before .before .before .before .before .before .loop in let a = c .before .before .before .before .before .before .before .before .before .before .args in let g = c .before .before .before .before .before .before .next-gap in let e = g .ensures .0 in let z = count-one (gaps (l .at) (a .stop) (twos (drop (l .i) (a .received .now)))) (g .result .from) (g .result .to) (gaps (g .result .at) (a .stop) (twos (drop (g .result .next) (a .received .now)))) e (c .before .before .before .before .if1 .left) in let q = ap length (c .before .before .put-pair .ensures) ∙ length-sets (l .out) (l .k) (g .result .from ∷ g .result .to ∷ []) in (g .ensures .1, q ∙ l .inv .1, omega (arith, z, q, l .inv .2), store-one (gaps (l .at) (a .stop) (twos (drop (l .i) (a .received .now)))) (g .result .from) (g .result .to) (gaps (g .result .at) (a .stop) (twos (drop (g .result .next) (a .received .now)))) e (l .out) _ (l .k) (c .before .before .before .before .if1 .left) (c .before .before .put-pair .ensures) ∙ l .inv .3)
+loop-again c =
+    let if1 = c .before .before .before .before .if1 in
+    let put-pair = c .before .before .put-pair in
+    let l = c .before .before .before .before .before .before .before .loop in
+    let a = c .before .before .before .before .before .before .before .before .before .before .args in
+    let g = c .before .before .before .before .before .before .next-gap in
+    let e = g .ensures .0 in
+    let z = count-one (gaps (l .at) (a .stop) (twos (drop (l .i) (a .received .now)))) (g .result .from) (g .result .to)
+    (gaps (g .result .at) (a .stop) (twos (drop (g .result .next) (a .received .now)))) e (if1 .left) in
+    let q = ap length (put-pair .ensures) ∙ length-sets (l .out) (l .k) (g .result .from ∷ g .result .to ∷ []) in (
+      g .ensures .1,
+      q ∙ l .inv .1,
+      omega (arith, z, q, l .inv .2),
+      store-one (gaps (l .at) (a .stop) (twos (drop (l .i) (a .received .now)))) (g .result .from) (g .result .to)
+          (gaps (g .result .at) (a .stop) (twos (drop (g .result .next) (a .received .now)))) e (l .out) _ (l .k) (if1 .left)
+          (put-pair .ensures)
+          ∙ l .inv .3,
+    )
 
 pub store-gaps-spec : {M : Type 1} → statement M
 store-gaps-spec =

@@ -38,10 +38,18 @@ shared-slice-read-to : tie.Need-shared-slice-read-to Inv-loop μ-loop
 shared-slice-read-to c = search needs
 
 returns : tie.Need-returns Inv-loop μ-loop
-returns c = let l = c .before .before .before .before .loop in let a = c .before .before .before .before .before .args in sym (behind-touch (a .ranges .now) (l .i) (l .last) (c .before .before .before .loop-test .taken) (c .if1 .taken)) ∙ l .inv .1
+returns c =
+    let loop-test = c .before .before .before .loop-test in
+    let l = c .before .before .before .before .loop in
+    let a = c .before .before .before .before .before .args in
+    sym (behind-touch (a .ranges .now) (l .i) (l .last) (loop-test .taken) (c .if1 .taken)) ∙ l .inv .1
 
 returns-2 : tie.Need-returns-2 Inv-loop μ-loop
-returns-2 c = let l = c .before .before .before .before .before .loop in let a = c .before .before .before .before .before .before .args in sym (behind-empty (a .ranges .now) (l .i) (l .last) (c .before .before .before .before .loop-test .taken) (c .if2 .taken)) ∙ l .inv .1
+returns-2 c =
+    let loop-test = c .before .before .before .before .loop-test in
+    let l = c .before .before .before .before .before .loop in
+    let a = c .before .before .before .before .before .before .args in
+    sym (behind-empty (a .ranges .now) (l .i) (l .last) (loop-test .taken) (c .if2 .taken)) ∙ l .inv .1
 
 add-i : tie.Need-add-i Inv-loop μ-loop
 add-i c = search needs
@@ -50,10 +58,17 @@ loop-less : tie.Need-loop-less Inv-loop μ-loop
 loop-less c = search needs
 
 loop-again : tie.Need-loop-again Inv-loop μ-loop
-loop-again c = let l = c .before .before .before .before .before .loop in let a = c .before .before .before .before .before .before .args in (search needs, sym (behind-on (a .ranges .now) (l .i) (l .last) (c .before .before .before .before .loop-test .taken) (c .before .if1 .left) (c .if2 .left)) ∙ l .inv .1)
+loop-again c =
+    let loop-test = c .before .before .before .before .loop-test in
+    let l = c .before .before .before .before .before .loop in
+    let a = c .before .before .before .before .before .before .args in
+    (search needs, sym (behind-on (a .ranges .now) (l .i) (l .last) (loop-test .taken) (c .before .if1 .left) (c .if2 .left)) ∙ l .inv .1)
 
 returns-3 : tie.Need-returns-3 Inv-loop μ-loop
-returns-3 c = let l = c .before .loop in let a = c .before .before .args in sym (behind-end (a .ranges .now) (l .i) (l .last) (c .loop-test .left)) ∙ l .inv .1
+returns-3 c =
+    let l = c .before .loop in
+    let a = c .before .before .args in
+    sym (behind-end (a .ranges .now) (l .i) (l .last) (c .loop-test .left)) ∙ l .inv .1
 
 pub apart-behind-spec : {M : Type 1} → statement M
 apart-behind-spec =

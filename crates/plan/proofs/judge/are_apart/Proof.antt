@@ -22,7 +22,10 @@ apart-behind-requires : tie.Need-apart-behind-requires
 apart-behind-requires c κs = search needs
 
 returns-3 : tie.Need-returns-3
-returns-3 c = c .apart-behind .ensures ∙ apart-first (c .before .before .before .before .before .before .args .ranges .now) (c .before .before .before .before .if1 .left) (c .before .if2 .left)
+returns-3 c =
+    let a = c .before .before .before .before .before .before .args in
+    let if1 = c .before .before .before .before .if1 in
+    c .apart-behind .ensures ∙ apart-first (a .ranges .now) (if1 .left) (c .before .if2 .left)
 
 pub are-apart-spec : {M : Type 1} → statement M
 are-apart-spec =

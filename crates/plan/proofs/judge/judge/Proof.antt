@@ -27,13 +27,25 @@ enum-told : tie.Need-enum-told
 enum-told c = search needs
 
 returns : tie.Need-returns
-returns c = refused-first _ _ _ _ _ _ _ (ap countAnswer (sym (c .before .counted .given .1)) ∙ c .before .before .before .calculate-max-segment-requests .ensures)
+returns c =
+    let calculate-max-segment-requests = c .before .before .before .calculate-max-segment-requests in
+    refused-first _ _ _ _ _ _ _ (ap countAnswer (sym (c .before .counted .given .1)) ∙ calculate-max-segment-requests .ensures)
 
 returns-2 : tie.Need-returns-2
-returns-2 c = refused-behind _ _ _ _ _ _ _ (ap countAnswer (sym (c .before .before .before .before .before .counted2 .given .1)) ∙ c .before .before .before .before .before .before .before .calculate-max-segment-requests .ensures) _ (ap judgedAnswer (sym (c .before .judged .given .1)) ∙ c .before .before .before .judge-ranges .ensures)
+returns-2 c =
+    let counted2 = c .before .before .before .before .before .counted2 in
+    let calculate-max-segment-requests = c .before .before .before .before .before .before .before .calculate-max-segment-requests in
+    let judge-ranges = c .before .before .before .judge-ranges in
+    refused-behind _ _ _ _ _ _ _ (ap countAnswer (sym (counted2 .given .1)) ∙ calculate-max-segment-requests .ensures) _
+    (ap judgedAnswer (sym (c .before .judged .given .1)) ∙ judge-ranges .ensures)
 
 returns-3 : tie.Need-returns-3
-returns-3 c = none-refused _ _ _ _ _ _ _ (ap countAnswer (sym (c .before .before .before .before .counted2 .given .1)) ∙ c .before .before .before .before .before .before .calculate-max-segment-requests .ensures) (ap judgedAnswer (sym (c .enum-told .given .1)) ∙ c .before .before .judge-ranges .ensures)
+returns-3 c =
+    let counted2 = c .before .before .before .before .counted2 in
+    let calculate-max-segment-requests = c .before .before .before .before .before .before .calculate-max-segment-requests in
+    let judge-ranges = c .before .before .judge-ranges in
+    none-refused _ _ _ _ _ _ _ (ap countAnswer (sym (counted2 .given .1)) ∙ calculate-max-segment-requests .ensures)
+    (ap judgedAnswer (sym (c .enum-told .given .1)) ∙ judge-ranges .ensures)
 
 pub judge-spec : {M : Type 1} → statement M
 judge-spec =

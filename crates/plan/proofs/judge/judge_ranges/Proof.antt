@@ -17,16 +17,28 @@ are-apart-requires : tie.Need-are-apart-requires
 are-apart-requires c κs = search needs
 
 returns-3 : tie.Need-returns-3
-returns-3 c = not-apart _ _ _ _ _ (c .before .before .before .if1 .left) (c .before .before .if2 .left) (sym (c .before .are-apart .ensures) ∙ not-true _ (c .if3 .taken))
+returns-3 c =
+    let if1 = c .before .before .before .if1 in
+    let if2 = c .before .before .if2 in
+    not-apart _ _ _ _ _ (if1 .left) (if2 .left) (sym (c .before .are-apart .ensures) ∙ not-true _ (c .if3 .taken))
 
 returns-4 : tie.Need-returns-4
-returns-4 c = backwards _ _ _ _ _ (c .before .before .before .before .if1 .left) (c .before .before .before .if2 .left) (sym (c .before .before .are-apart .ensures) ∙ not-false _ (c .before .if3 .left)) (c .if4 .taken)
+returns-4 c =
+    let if1 = c .before .before .before .before .if1 in
+    let if2 = c .before .before .before .if2 in
+    let are-apart = c .before .before .are-apart in
+    backwards _ _ _ _ _ (if1 .left) (if2 .left) (sym (are-apart .ensures) ∙ not-false _ (c .before .if3 .left)) (c .if4 .taken)
 
 judge-scope-requires : tie.Need-judge-scope-requires
 judge-scope-requires c κs = search needs
 
 returns-5 : tie.Need-returns-5
-returns-5 c = as-scope _ _ _ _ _ (c .before .before .before .before .before .if1 .left) (c .before .before .before .before .if2 .left) (sym (c .before .before .before .are-apart .ensures) ∙ not-false _ (c .before .before .if3 .left)) _ (c .before .if4 .left) (c .judge-scope .ensures)
+returns-5 c =
+    let if1 = c .before .before .before .before .before .if1 in
+    let if2 = c .before .before .before .before .if2 in
+    let are-apart = c .before .before .before .are-apart in
+    let if3 = c .before .before .if3 in
+    as-scope _ _ _ _ _ (if1 .left) (if2 .left) (sym (are-apart .ensures) ∙ not-false _ (if3 .left)) _ (c .before .if4 .left) (c .judge-scope .ensures)
 
 pub judge-ranges-spec : {M : Type 1} → statement M
 judge-ranges-spec =

@@ -27,7 +27,10 @@ shared-slice-read-if1 : tie.Need-shared-slice-read-if1 Inv-loop μ-loop
 shared-slice-read-if1 c = search needs
 
 returns : tie.Need-returns Inv-loop μ-loop
-returns c = let l = c .before .before .before .loop in let a = c .before .before .before .before .args in sym (within-low (a .requests .now) (l .k) (l .left) (a .start) (a .«end») (omega arith) (omega arith) (c .if1 .taken)) ∙ l .inv .1
+returns c =
+    let l = c .before .before .before .loop in
+    let a = c .before .before .before .before .args in
+    sym (within-low (a .requests .now) (l .k) (l .left) (a .start) (a .«end») (omega arith) (omega arith) (c .if1 .taken)) ∙ l .inv .1
 
 add-if2 : tie.Need-add-if2 Inv-loop μ-loop
 add-if2 c = search needs
@@ -39,7 +42,10 @@ shared-slice-read-if2 : tie.Need-shared-slice-read-if2 Inv-loop μ-loop
 shared-slice-read-if2 c = search needs
 
 returns-2 : tie.Need-returns-2 Inv-loop μ-loop
-returns-2 c = let l = c .before .before .before .before .before .loop in let a = c .before .before .before .before .before .before .args in sym (within-high (a .requests .now) (l .k) (l .left) (a .start) (a .«end») (omega arith) (omega arith) (c .if2 .taken)) ∙ l .inv .1
+returns-2 c =
+    let l = c .before .before .before .before .before .loop in
+    let a = c .before .before .before .before .before .before .args in
+    sym (within-high (a .requests .now) (l .k) (l .left) (a .start) (a .«end») (omega arith) (omega arith) (c .if2 .taken)) ∙ l .inv .1
 
 add-k : tie.Need-add-k Inv-loop μ-loop
 add-k c = search needs
@@ -51,10 +57,19 @@ loop-less : tie.Need-loop-less Inv-loop μ-loop
 loop-less c = search needs
 
 loop-again : tie.Need-loop-again Inv-loop μ-loop
-loop-again c = let l = c .before .before .before .before .before .loop in let a = c .before .before .before .before .before .before .args in (omega arith, sym (within-on (a .requests .now) (l .k) (l .left) (a .start) (a .«end») (omega arith) (omega arith) (c .before .before .if1 .left) (c .if2 .left)) ∙ l .inv .1)
+loop-again c =
+    let if1 = c .before .before .if1 in
+    let l = c .before .before .before .before .before .loop in
+    let a = c .before .before .before .before .before .before .args in (
+      omega arith,
+      sym (within-on (a .requests .now) (l .k) (l .left) (a .start) (a .«end») (omega arith) (omega arith) (if1 .left) (c .if2 .left)) ∙ l .inv .1,
+    )
 
 returns-3 : tie.Need-returns-3 Inv-loop μ-loop
-returns-3 c = let l = c .before .loop in let a = c .before .before .args in sym (within-end (a .requests .now) (l .k) (l .left) (a .start) (a .«end») (c .loop-test .left)) ∙ l .inv .1
+returns-3 c =
+    let l = c .before .loop in
+    let a = c .before .before .args in
+    sym (within-end (a .requests .now) (l .k) (l .left) (a .start) (a .«end») (c .loop-test .left)) ∙ l .inv .1
 
 pub all-within-spec : {M : Type 1} → statement M
 all-within-spec =

@@ -32,7 +32,11 @@ shared-slice-read-if1 : tie.Need-shared-slice-read-if1 Inv-loop μ-loop
 shared-slice-read-if1 c = search needs
 
 returns : tie.Need-returns Inv-loop μ-loop
-returns c = let l = c .before .before .before .loop in let a = c .before .before .before .before .args in sym (fits-not (a .naks .now) (l .i) (a .most) (c .before .before .loop-test .taken) (c .if1 .taken)) ∙ l .inv .1
+returns c =
+    let loop-test = c .before .before .loop-test in
+    let l = c .before .before .before .loop in
+    let a = c .before .before .before .before .args in
+    sym (fits-not (a .naks .now) (l .i) (a .most) (loop-test .taken) (c .if1 .taken)) ∙ l .inv .1
 
 add-i : tie.Need-add-i Inv-loop μ-loop
 add-i c = search needs
@@ -41,10 +45,17 @@ loop-less : tie.Need-loop-less Inv-loop μ-loop
 loop-less c = search needs
 
 loop-again : tie.Need-loop-again Inv-loop μ-loop
-loop-again c = let l = c .before .before .before .loop in let a = c .before .before .before .before .args in (omega arith, sym (fits-on (a .naks .now) (l .i) (a .most) (c .before .before .loop-test .taken) (c .if1 .left)) ∙ l .inv .1)
+loop-again c =
+    let loop-test = c .before .before .loop-test in
+    let l = c .before .before .before .loop in
+    let a = c .before .before .before .before .args in
+    (omega arith, sym (fits-on (a .naks .now) (l .i) (a .most) (loop-test .taken) (c .if1 .left)) ∙ l .inv .1)
 
 returns-2 : tie.Need-returns-2 Inv-loop μ-loop
-returns-2 c = let l = c .before .loop in let a = c .before .before .args in sym (fits-end (a .naks .now) (l .i) (a .most) (c .loop-test .left)) ∙ l .inv .1
+returns-2 c =
+    let l = c .before .loop in
+    let a = c .before .before .args in
+    sym (fits-end (a .naks .now) (l .i) (a .most) (c .loop-test .left)) ∙ l .inv .1
 
 pub each-fits-spec : {M : Type 1} → statement M
 each-fits-spec =

@@ -37,7 +37,11 @@ shared-slice-read-if1 : tie.Need-shared-slice-read-if1 Inv-loop μ-loop
 shared-slice-read-if1 c = search needs
 
 returns : tie.Need-returns Inv-loop μ-loop
-returns c = let l = c .before .before .before .loop in let a = c .before .before .before .before .before .before .args in sym (each-lack (a .naks .now) (a .requests .now) (l .i) (l .k) (c .before .before .loop-test .taken) (c .if1 .taken)) ∙ l .inv .2
+returns c =
+    let loop-test = c .before .before .loop-test in
+    let l = c .before .before .before .loop in
+    let a = c .before .before .before .before .before .before .args in
+    sym (each-lack (a .naks .now) (a .requests .now) (l .i) (l .k) (loop-test .taken) (c .if1 .taken)) ∙ l .inv .2
 
 add-count : tie.Need-add-count Inv-loop μ-loop
 add-count c = search needs
@@ -67,7 +71,15 @@ all-within-requires : tie.Need-all-within-requires Inv-loop μ-loop
 all-within-requires c κs = search needs
 
 returns-2 : tie.Need-returns-2 Inv-loop μ-loop
-returns-2 c = let l = c .before .before .before .before .before .before .before .before .loop in let a = c .before .before .before .before .before .before .before .before .before .before .before .args in sym (each-out (a .naks .now) (a .requests .now) (l .i) (l .k) (c .before .before .before .before .before .before .before .loop-test .taken) (c .before .before .before .before .before .if1 .left) (sym (c .before .all-within .ensures) ∙ not-true _ (c .if2 .taken))) ∙ l .inv .2
+returns-2 c =
+    let loop-test = c .before .before .before .before .before .before .before .loop-test in
+    let if1 = c .before .before .before .before .before .if1 in
+    let l = c .before .before .before .before .before .before .before .before .loop in
+    let a = c .before .before .before .before .before .before .before .before .before .before .before .args in
+    sym
+    (each-out (a .naks .now) (a .requests .now) (l .i) (l .k) (loop-test .taken) (if1 .left)
+    (sym (c .before .all-within .ensures) ∙ not-true _ (c .if2 .taken)))
+    ∙ l .inv .2
 
 mul-k : tie.Need-mul-k Inv-loop μ-loop
 mul-k c = search needs
@@ -82,13 +94,27 @@ loop-less : tie.Need-loop-less Inv-loop μ-loop
 loop-less c = search needs
 
 loop-again : tie.Need-loop-again Inv-loop μ-loop
-loop-again c = let l = c .before .before .before .before .before .before .before .before .loop in let a = c .before .before .before .before .before .before .before .before .before .before .before .args in (omega arith, omega arith, sym (each-on (a .naks .now) (a .requests .now) (l .i) (l .k) (c .before .before .before .before .before .before .before .loop-test .taken) (c .before .before .before .before .before .if1 .left) (sym (c .before .all-within .ensures) ∙ not-false _ (c .if2 .left))) ∙ l .inv .2)
+loop-again c =
+    let loop-test = c .before .before .before .before .before .before .before .loop-test in
+    let if1 = c .before .before .before .before .before .if1 in
+    let l = c .before .before .before .before .before .before .before .before .loop in
+    let a = c .before .before .before .before .before .before .before .before .before .before .before .args in (
+      omega arith,
+      omega arith,
+      sym
+          (each-on (a .naks .now) (a .requests .now) (l .i) (l .k) (loop-test .taken) (if1 .left)
+          (sym (c .before .all-within .ensures) ∙ not-false _ (c .if2 .left)))
+          ∙ l .inv .2,
+    )
 
 sub-result : tie.Need-sub-result Inv-loop μ-loop
 sub-result c = search needs
 
 returns-3 : tie.Need-returns-3 Inv-loop μ-loop
-returns-3 c = let l = c .before .loop in let a = c .before .before .before .before .args in sym (each-end (a .naks .now) (a .requests .now) (l .i) (l .k) (c .loop-test .left)) ∙ l .inv .2
+returns-3 c =
+    let l = c .before .loop in
+    let a = c .before .before .before .before .args in
+    sym (each-end (a .naks .now) (a .requests .now) (l .i) (l .k) (c .loop-test .left)) ∙ l .inv .2
 
 pub each-within-spec : {M : Type 1} → statement M
 each-within-spec =

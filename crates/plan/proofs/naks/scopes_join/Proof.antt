@@ -41,10 +41,18 @@ shared-slice-read-to : tie.Need-shared-slice-read-to Inv-loop μ-loop
 shared-slice-read-to c = search needs
 
 returns-2 : tie.Need-returns-2 Inv-loop μ-loop
-returns-2 c = let l = c .before .before .before .before .loop in let a = c .before .before .before .before .before .before .args in sym (join-off (a .naks .now) (l .i) (l .at) (a .«end») (c .before .before .before .loop-test .taken) (c .if2 .taken)) ∙ l .inv .1
+returns-2 c =
+    let loop-test = c .before .before .before .loop-test in
+    let l = c .before .before .before .before .loop in
+    let a = c .before .before .before .before .before .before .args in
+    sym (join-off (a .naks .now) (l .i) (l .at) (a .«end») (loop-test .taken) (c .if2 .taken)) ∙ l .inv .1
 
 returns-3 : tie.Need-returns-3 Inv-loop μ-loop
-returns-3 c = let l = c .before .before .before .before .before .loop in let a = c .before .before .before .before .before .before .before .args in sym (join-back (a .naks .now) (l .i) (l .at) (a .«end») (c .before .before .before .before .loop-test .taken) (c .if3 .taken)) ∙ l .inv .1
+returns-3 c =
+    let loop-test = c .before .before .before .before .loop-test in
+    let l = c .before .before .before .before .before .loop in
+    let a = c .before .before .before .before .before .before .before .args in
+    sym (join-back (a .naks .now) (l .i) (l .at) (a .«end») (loop-test .taken) (c .if3 .taken)) ∙ l .inv .1
 
 add-i : tie.Need-add-i Inv-loop μ-loop
 add-i c = search needs
@@ -53,10 +61,17 @@ loop-less : tie.Need-loop-less Inv-loop μ-loop
 loop-less c = search needs
 
 loop-again : tie.Need-loop-again Inv-loop μ-loop
-loop-again c = let l = c .before .before .before .before .before .loop in let a = c .before .before .before .before .before .before .before .args in (omega arith, sym (join-on (a .naks .now) (l .i) (l .at) (a .«end») (c .before .before .before .before .loop-test .taken) (c .before .if2 .left) (c .if3 .left)) ∙ l .inv .1)
+loop-again c =
+    let loop-test = c .before .before .before .before .loop-test in
+    let l = c .before .before .before .before .before .loop in
+    let a = c .before .before .before .before .before .before .before .args in
+    (omega arith, sym (join-on (a .naks .now) (l .i) (l .at) (a .«end») (loop-test .taken) (c .before .if2 .left) (c .if3 .left)) ∙ l .inv .1)
 
 returns-4 : tie.Need-returns-4 Inv-loop μ-loop
-returns-4 c = let l = c .before .loop in let a = c .before .before .before .args in sym (join-end (a .naks .now) (l .i) (l .at) (a .«end») (c .loop-test .left)) ∙ l .inv .1
+returns-4 c =
+    let l = c .before .loop in
+    let a = c .before .before .before .args in
+    sym (join-end (a .naks .now) (l .i) (l .at) (a .«end») (c .loop-test .left)) ∙ l .inv .1
 
 pub scopes-join-spec : {M : Type 1} → statement M
 scopes-join-spec =

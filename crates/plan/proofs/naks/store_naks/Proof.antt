@@ -21,31 +21,76 @@ abbrev μ-loop : tie.MeasureT-loop
 μ-loop naks most left start end requests out₀ n₀ rest₀ at₀ k₀ i₀ out n rest at k i = n
 
 loop-holds : tie.Need-loop-holds Inv-loop μ-loop
-loop-holds c = (omega (arith, c .before .before .pre .0), refl, omega (arith, c .before .before .pre .1), c .before .before .pre .2, c .before .before .pre .3, refl)
+loop-holds c =
+    let pre = c .before .before .pre in
+    (omega (arith, pre .0), refl, omega (arith, pre .1), pre .2, pre .3, refl)
 
 mul-behind : tie.Need-mul-behind Inv-loop μ-loop
-mul-behind c = let l = c .before .loop in let a = c .before .before .before .before .args in let m = enough-more (l .n) (a .most) (l .rest) (c .loop-test .taken) (l .inv .3) in let p = l .inv .4 (c .loop-test .taken) in record { fits = omega (arith, m .0, p, l .inv .2, l .inv .0) }
+mul-behind c =
+    let l = c .before .loop in
+    let a = c .before .before .before .before .args in
+    let m = enough-more (l .n) (a .most) (l .rest) (c .loop-test .taken) (l .inv .3) in
+    let p = l .inv .4 (c .loop-test .taken) in
+    record { fits = omega (arith, m .0, p, l .inv .2, l .inv .0) }
 
 add-behind : tie.Need-add-behind Inv-loop μ-loop
-add-behind c = let l = c .before .loop in let a = c .before .before .before .before .args in let m = enough-more (l .n) (a .most) (l .rest) (c .loop-test .taken) (l .inv .3) in let p = l .inv .4 (c .loop-test .taken) in record { fits = omega (arith, m .0, p, l .inv .2, l .inv .0) }
+add-behind c =
+    let l = c .before .loop in
+    let a = c .before .before .before .before .args in
+    let m = enough-more (l .n) (a .most) (l .rest) (c .loop-test .taken) (l .inv .3) in
+    let p = l .inv .4 (c .loop-test .taken) in
+    record { fits = omega (arith, m .0, p, l .inv .2, l .inv .0) }
 
 sub-to : tie.Need-sub-to Inv-loop μ-loop
-sub-to c = let l = c .before .loop in let a = c .before .before .before .before .args in let m = enough-more (l .n) (a .most) (l .rest) (c .loop-test .taken) (l .inv .3) in let p = l .inv .4 (c .loop-test .taken) in omega (arith, m .0, p, l .inv .2, l .inv .0)
+sub-to c =
+    let l = c .before .loop in
+    let a = c .before .before .before .before .args in
+    let m = enough-more (l .n) (a .most) (l .rest) (c .loop-test .taken) (l .inv .3) in
+    let p = l .inv .4 (c .loop-test .taken) in
+    omega (arith, m .0, p, l .inv .2, l .inv .0)
 
 mul-to : tie.Need-mul-to Inv-loop μ-loop
-mul-to c = let l = c .before .loop in let a = c .before .before .before .before .args in let m = enough-more (l .n) (a .most) (l .rest) (c .loop-test .taken) (l .inv .3) in let p = l .inv .4 (c .loop-test .taken) in record { fits = omega (arith, m .0, p, l .inv .2, l .inv .0) }
+mul-to c =
+    let l = c .before .loop in
+    let a = c .before .before .before .before .args in
+    let m = enough-more (l .n) (a .most) (l .rest) (c .loop-test .taken) (l .inv .3) in
+    let p = l .inv .4 (c .loop-test .taken) in
+    record { fits = omega (arith, m .0, p, l .inv .2, l .inv .0) }
 
 shared-slice-read-to : tie.Need-shared-slice-read-to Inv-loop μ-loop
-shared-slice-read-to c = let l = c .before .before .loop in let a = c .before .before .before .before .before .args in let m = enough-more (l .n) (a .most) (l .rest) (c .before .loop-test .taken) (l .inv .3) in let p = l .inv .4 (c .before .loop-test .taken) in omega (arith, m .0, p, l .inv .2, l .inv .0)
+shared-slice-read-to c =
+    let l = c .before .before .loop in
+    let a = c .before .before .before .before .before .args in
+    let m = enough-more (l .n) (a .most) (l .rest) (c .before .loop-test .taken) (l .inv .3) in
+    let p = l .inv .4 (c .before .loop-test .taken) in
+    omega (arith, m .0, p, l .inv .2, l .inv .0)
 
 put-nak-requires : tie.Need-put-nak-requires Inv-loop μ-loop
-put-nak-requires c κs = let l = c .before .before .before .loop in let a = c .before .before .before .before .before .before .args in let m = enough-more (l .n) (a .most) (l .rest) (c .before .before .loop-test .taken) (l .inv .3) in let p = l .inv .4 (c .before .before .loop-test .taken) in omega (arith, m .0, p, l .inv .2, l .inv .0)
+put-nak-requires c κs =
+    let loop-test = c .before .before .loop-test in
+    let l = c .before .before .before .loop in
+    let a = c .before .before .before .before .before .before .args in
+    let m = enough-more (l .n) (a .most) (l .rest) (loop-test .taken) (l .inv .3) in
+    let p = l .inv .4 (loop-test .taken) in
+    omega (arith, m .0, p, l .inv .2, l .inv .0)
 
 sub-rest : tie.Need-sub-rest Inv-loop μ-loop
-sub-rest c = let l = c .before .before .before .before .before .before .loop in let a = c .before .before .before .before .before .before .before .before .before .args in let m = enough-more (l .n) (a .most) (l .rest) (c .before .before .before .before .before .loop-test .taken) (l .inv .3) in let p = l .inv .4 (c .before .before .before .before .before .loop-test .taken) in omega (arith, m .0, p, l .inv .2, l .inv .0)
+sub-rest c =
+    let loop-test = c .before .before .before .before .before .loop-test in
+    let l = c .before .before .before .before .before .before .loop in
+    let a = c .before .before .before .before .before .before .before .before .before .args in
+    let m = enough-more (l .n) (a .most) (l .rest) (loop-test .taken) (l .inv .3) in
+    let p = l .inv .4 (loop-test .taken) in
+    omega (arith, m .0, p, l .inv .2, l .inv .0)
 
 add-i : tie.Need-add-i Inv-loop μ-loop
-add-i c = let l = c .before .before .before .before .before .before .loop in let a = c .before .before .before .before .before .before .before .before .before .args in let m = enough-more (l .n) (a .most) (l .rest) (c .before .before .before .before .before .loop-test .taken) (l .inv .3) in let p = l .inv .4 (c .before .before .before .before .before .loop-test .taken) in record { fits = omega (arith, m .0, p, l .inv .2, l .inv .0) }
+add-i c =
+    let loop-test = c .before .before .before .before .before .loop-test in
+    let l = c .before .before .before .before .before .before .loop in
+    let a = c .before .before .before .before .before .before .before .before .before .args in
+    let m = enough-more (l .n) (a .most) (l .rest) (loop-test .taken) (l .inv .3) in
+    let p = l .inv .4 (loop-test .taken) in
+    record { fits = omega (arith, m .0, p, l .inv .2, l .inv .0) }
 
 sub-n : tie.Need-sub-n Inv-loop μ-loop
 sub-n c = search needs
@@ -54,22 +99,53 @@ loop-less : tie.Need-loop-less Inv-loop μ-loop
 loop-less c = search needs
 
 loop-again : tie.Need-loop-again Inv-loop μ-loop
-loop-again c = let l = c .before .before .before .before .before .before .loop in let a = c .before .before .before .before .before .before .before .before .before .args in let m = enough-more (l .n) (a .most) (l .rest) (c .before .before .before .before .before .loop-test .taken) (l .inv .3) in let p = l .inv .4 (c .before .before .before .before .before .loop-test .taken) in let q = ap length (c .before .before .put-nak .ensures) ∙ length-sets (l .out) (l .i) (l .at ∷ _ ∷ a .most ∷ []) in (omega (arith, q, l .inv .0), q ∙ l .inv .1, omega (arith, m .0, l .inv .2), m .1, λ k. p, naks-turn (a .requests .now) (l .k) (l .n) (a .most) (l .rest) (l .at) (a .«end») (l .out) (l .i) _ _ (c .before .before .before .before .before .loop-test .taken) p (omega (arith, m .0, l .inv .2)) refl (c .before .before .put-nak .ensures) ∙ l .inv .5)
+loop-again c =
+    let loop-test = c .before .before .before .before .before .loop-test in
+    let put-nak = c .before .before .put-nak in
+    let l = c .before .before .before .before .before .before .loop in
+    let a = c .before .before .before .before .before .before .before .before .before .args in
+    let m = enough-more (l .n) (a .most) (l .rest) (loop-test .taken) (l .inv .3) in
+    let p = l .inv .4 (loop-test .taken) in
+    let q = ap length (put-nak .ensures) ∙ length-sets (l .out) (l .i) (l .at ∷ _ ∷ a .most ∷ []) in (
+      omega (arith, q, l .inv .0),
+      q ∙ l .inv .1,
+      omega (arith, m .0, l .inv .2),
+      m .1,
+      λ k. p,
+      naks-turn (a .requests .now) (l .k) (l .n) (a .most) (l .rest) (l .at) (a .«end») (l .out) (l .i) _ _ (loop-test .taken) p
+          (omega (arith, m .0, l .inv .2)) refl (put-nak .ensures)
+          ∙ l .inv .5,
+    )
 
 same-length : tie.Need-same-length Inv-loop μ-loop
 same-length c = search needs
 
 returns : tie.Need-returns Inv-loop μ-loop
-returns c = let l = c .before .before .loop in let a = c .before .before .before .before .before .args in sym (naks-over (a .requests .now) (l .k) (l .n) (a .most) (l .rest) (l .at) (a .«end») (l .out) (l .i) (c .if1 .taken)) ∙ l .inv .5
+returns c =
+    let l = c .before .before .loop in
+    let a = c .before .before .before .before .before .args in
+    sym (naks-over (a .requests .now) (l .k) (l .n) (a .most) (l .rest) (l .at) (a .«end») (l .out) (l .i) (c .if1 .taken)) ∙ l .inv .5
 
 put-nak-requires-2 : tie.Need-put-nak-requires-2 Inv-loop μ-loop
 put-nak-requires-2 c κs = let l = c .before .before .before .loop in omega (arith, l .inv .0, c .before .if1 .left)
 
 same-length-2 : tie.Need-same-length-2 Inv-loop μ-loop
-same-length-2 c = let l = c .before .before .before .before .before .before .loop in let a = c .before .before .before .before .before .before .before .before .before .args in ap length (c .before .before .put-nak2 .ensures) ∙ length-sets (l .out) (l .i) (l .at ∷ a .«end» ∷ l .rest ∷ []) ∙ l .inv .1
+same-length-2 c =
+    let put-nak2 = c .before .before .put-nak2 in
+    let l = c .before .before .before .before .before .before .loop in
+    let a = c .before .before .before .before .before .before .before .before .before .args in
+    ap length (put-nak2 .ensures) ∙ length-sets (l .out) (l .i) (l .at ∷ a .«end» ∷ l .rest ∷ []) ∙ l .inv .1
 
 returns-2 : tie.Need-returns-2 Inv-loop μ-loop
-returns-2 c = let l = c .before .before .before .before .before .before .loop in let a = c .before .before .before .before .before .before .before .before .before .args in c .before .before .put-nak2 .ensures ∙ naks-last (a .requests .now) (l .k) (l .n) (a .most) (l .rest) (l .at) (a .«end») (l .out) (l .i) (c .before .before .before .before .if1 .left) (c .before .before .before .before .before .loop-test .left) ∙ l .inv .5
+returns-2 c =
+    let put-nak2 = c .before .before .put-nak2 in
+    let if1 = c .before .before .before .before .if1 in
+    let loop-test = c .before .before .before .before .before .loop-test in
+    let l = c .before .before .before .before .before .before .loop in
+    let a = c .before .before .before .before .before .before .before .before .before .args in
+    put-nak2 .ensures
+    ∙ naks-last (a .requests .now) (l .k) (l .n) (a .most) (l .rest) (l .at) (a .«end») (l .out) (l .i) (if1 .left) (loop-test .left)
+    ∙ l .inv .5
 
 pub store-naks-spec : {M : Type 1} → statement M
 store-naks-spec =

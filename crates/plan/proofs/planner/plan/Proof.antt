@@ -18,10 +18,17 @@ enum-known-judged-2 : tie.Need-enum-known-judged-2
 enum-known-judged-2 c = search needs
 
 plan-with-requires : tie.Need-plan-with-requires
-plan-with-requires c κs = good _ _ _ _ _ _ _ (ap countAnswer (sym (c .before .before .before .judged2 .given .1)) ∙ c .before .before .before .before .before .judge .ensures) .are-apart
+plan-with-requires c κs =
+    let judged2 = c .before .before .before .judged2 in
+    let judge = c .before .before .before .before .before .judge in
+    good _ _ _ _ _ _ _ (ap countAnswer (sym (judged2 .given .1)) ∙ judge .ensures) .are-apart
 
 returns : tie.Need-returns
-returns c = let a = c .before .before .before .before .before .before .before .args in plan-refused (a .header) (a .size) (a .received .now) (a .start) (a .«end») (a .requests .now) (a .naks .now) _ (ap countAnswer (sym (c .before .judged .given .1)) ∙ c .before .before .before .judge .ensures)
+returns c =
+    let judge = c .before .before .before .judge in
+    let a = c .before .before .before .before .before .before .before .args in
+    plan-refused (a .header) (a .size) (a .received .now) (a .start) (a .«end») (a .requests .now) (a .naks .now) _
+    (ap countAnswer (sym (c .before .judged .given .1)) ∙ judge .ensures)
 
 same-length : tie.Need-same-length
 same-length c = search needs
@@ -30,7 +37,13 @@ same-length-2 : tie.Need-same-length-2
 same-length-2 c = search needs
 
 returns-2 : tie.Need-returns-2
-returns-2 c = let a = c .before .before .before .before .before .before .before .before .before .before .before .before .before .before .args in plan-judged (a .header) (a .size) (a .received .now) (a .start) (a .«end») (a .requests .now) (a .naks .now) _ _ _ _ (ap countAnswer (sym (c .before .before .before .before .before .before .before .before .judged2 .given .1)) ∙ c .before .before .before .before .before .before .before .before .before .before .judge .ensures) (c .before .before .before .before .plan-with .ensures)
+returns-2 c =
+    let judged2 = c .before .before .before .before .before .before .before .before .judged2 in
+    let judge = c .before .before .before .before .before .before .before .before .before .before .judge in
+    let plan-with = c .before .before .before .before .plan-with in
+    let a = c .before .before .before .before .before .before .before .before .before .before .before .before .before .before .args in
+    plan-judged (a .header) (a .size) (a .received .now) (a .start) (a .«end») (a .requests .now) (a .naks .now) _ _ _ _
+    (ap countAnswer (sym (judged2 .given .1)) ∙ judge .ensures) (plan-with .ensures)
 
 pub plan-spec : {M : Type 1} → statement M
 plan-spec =

@@ -38,7 +38,16 @@ same-length : tie.Need-same-length
 same-length c = search needs
 
 returns-2 : tie.Need-returns-2
-returns-2 c = second-read _ _ _ (c .before .before .before .before .before .before .before .before .before .before .before .before .before .before .before .before .before .before .args .lent .now) _ (ap nakAnswer (sym (c .before .before .before .before .before .before .before .before .before .before .before .before .read2 .given .1)) ∙ c .before .before .before .before .before .before .before .before .before .before .before .before .before .before .from-bytes .ensures) _ _ _ (c .before .before .before .before .before .before .before .before .same-transaction .ensures) (c .before .before .before .before .before .before .before .request-area .ensures) (c .before .before .before .before .before .before .request-area2 .ensures) _ _ (c .before .before .before .compare-areas .ensures)
+returns-2 c =
+    let a = c .before .before .before .before .before .before .before .before .before .before .before .before .before .before .before .before .before .before .args in
+    let read2 = c .before .before .before .before .before .before .before .before .before .before .before .before .read2 in
+    let from-bytes = c .before .before .before .before .before .before .before .before .before .before .before .before .before .before .from-bytes in
+    let same-transaction = c .before .before .before .before .before .before .before .before .same-transaction in
+    let request-area = c .before .before .before .before .before .before .before .request-area in
+    let request-area2 = c .before .before .before .before .before .before .request-area2 in
+    let compare-areas = c .before .before .before .compare-areas in
+    second-read _ _ _ (a .lent .now) _ (ap nakAnswer (sym (read2 .given .1)) ∙ from-bytes .ensures) _ _ _ (same-transaction .ensures)
+    (request-area .ensures) (request-area2 .ensures) _ _ (compare-areas .ensures)
 
 pub compare-read-spec : {M : Type 1} → statement M
 compare-read-spec =

@@ -26,7 +26,11 @@ same-length : tie.Need-same-length
 same-length c = search needs
 
 returns-2 : tie.Need-returns-2
-returns-2 c = first-read _ _ _ _ (ap nakAnswer (sym (c .before .before .before .before .before .read2 .given .1)) ∙ c .before .before .before .before .before .before .before .from-bytes .ensures) _ _ (c .before .before .compare-read .ensures)
+returns-2 c =
+    let read2 = c .before .before .before .before .before .read2 in
+    let from-bytes = c .before .before .before .before .before .before .before .from-bytes in
+    let compare-read = c .before .before .compare-read in
+    first-read _ _ _ _ (ap nakAnswer (sym (read2 .given .1)) ∙ from-bytes .ensures) _ _ (compare-read .ensures)
 
 pub differ-spec : {M : Type 1} → statement M
 differ-spec =

@@ -26,7 +26,9 @@ side-at-requires-2 : tie.Need-side-at-requires-2 Inv-loop μ-loop
 side-at-requires-2 c κs = search needs
 
 loop-holds : tie.Need-loop-holds Inv-loop μ-loop
-loop-holds c = walk-start _ _ _ _ _ _ _ _ _ _ _ (c .before .before .before .before .before .before .before .pre .0) (c .before .before .before .before .before .before .before .pre .1) (c .before .side-at .ensures) (c .side-at2 .ensures)
+loop-holds c =
+    let pre = c .before .before .before .before .before .before .before .pre in
+    walk-start _ _ _ _ _ _ _ _ _ _ _ (pre .0) (pre .1) (c .before .side-at .ensures) (c .side-at2 .ensures)
 
 edge-requires : tie.Need-edge-requires Inv-loop μ-loop
 edge-requires c κs = search needs
@@ -47,7 +49,9 @@ label-of-requires : tie.Need-label-of-requires Inv-loop μ-loop
 label-of-requires c κs = search needs
 
 turned-requires : tie.Need-turned-requires Inv-loop μ-loop
-turned-requires c κs = omega (arith, c .before .before .before .before .before .before .before .before .loop .inv .few, c .before .before .before .before .before .before .before .before .loop .inv .inside)
+turned-requires c κs =
+    let l = c .before .before .before .before .before .before .before .before .loop in
+    omega (arith, l .inv .few, l .inv .inside)
 
 passed-requires : tie.Need-passed-requires Inv-loop μ-loop
 passed-requires c κs = search needs
@@ -56,19 +60,45 @@ passed-requires-2 : tie.Need-passed-requires-2 Inv-loop μ-loop
 passed-requires-2 c κs = search needs
 
 loop-less : tie.Need-loop-less Inv-loop μ-loop
-loop-less c = omega (arith, to-ahead _ _ _ _ _ _ _ _ _ _ _ _ _ _ (c .before .before .before .before .before .before .before .before .before .before .before .before .before .loop .inv) (c .before .before .before .before .before .before .before .before .before .before .before .before .loop-test .taken) _ _ _ (c .before .before .before .before .before .before .before .before .before .before .before .edge .ensures .0) (c .before .before .before .before .before .before .before .before .before .before .before .edge .ensures .1) (c .before .before .before .before .before .before .before .before .before .before .edge2 .ensures .0) (c .before .before .before .before .before .before .before .before .before .before .edge2 .ensures .1) (c .before .before .before .before .before .before .before .before .before .lesser .ensures), to-inside _ _ _ _ _ _ _ _ _ _ _ _ _ _ (c .before .before .before .before .before .before .before .before .before .before .before .before .before .loop .inv) (c .before .before .before .before .before .before .before .before .before .before .before .before .loop-test .taken) _ _ _ (c .before .before .before .before .before .before .before .before .before .before .before .edge .ensures .0) (c .before .before .before .before .before .before .before .before .before .before .before .edge .ensures .1) (c .before .before .before .before .before .before .before .before .before .before .edge2 .ensures .0) (c .before .before .before .before .before .before .before .before .before .before .edge2 .ensures .1) (c .before .before .before .before .before .before .before .before .before .lesser .ensures))
+loop-less c =
+    let l = c .before .before .before .before .before .before .before .before .before .before .before .before .before .loop in
+    let loop-test = c .before .before .before .before .before .before .before .before .before .before .before .before .loop-test in
+    let edge = c .before .before .before .before .before .before .before .before .before .before .before .edge in
+    let edge2 = c .before .before .before .before .before .before .before .before .before .before .edge2 in
+    let lesser = c .before .before .before .before .before .before .before .before .before .lesser in
+    omega
+    (arith, to-ahead _ _ _ _ _ _ _ _ _ _ _ _ _ _ (l .inv) (loop-test .taken) _ _ _ (edge .ensures .0) (edge .ensures .1) (edge2 .ensures .0) (edge2 .ensures .1) (lesser .ensures), to-inside _ _ _ _ _ _ _ _ _ _ _ _ _ _ (l .inv) (loop-test .taken) _ _ _ (edge .ensures .0) (edge .ensures .1) (edge2 .ensures .0) (edge2 .ensures .1) (lesser .ensures))
 
 loop-again : tie.Need-loop-again Inv-loop μ-loop
-loop-again c = walk-turn _ _ _ _ _ _ _ _ _ _ _ _ _ _ (c .before .before .before .before .before .before .before .before .before .before .before .before .before .loop .inv) (c .before .before .before .before .before .before .before .before .before .before .before .before .loop-test .taken) _ _ _ (c .before .before .before .before .before .before .before .before .before .before .before .edge .ensures .0) (c .before .before .before .before .before .before .before .before .before .before .before .edge .ensures .1) (c .before .before .before .before .before .before .before .before .before .before .edge2 .ensures .0) (c .before .before .before .before .before .before .before .before .before .before .edge2 .ensures .1) (c .before .before .before .before .before .before .before .before .before .lesser .ensures) _ _ _ _ _ _ _ _ _ _ _ (c .before .before .before .before .before .before .label-of .ensures) (c .before .before .before .before .before .before .before .before .asks .ensures) (c .before .before .before .before .before .before .before .asks2 .ensures) (c .before .before .before .before .turned .ensures .0) (c .before .before .before .before .turned .ensures .1) (c .before .passed .ensures) (c .passed2 .ensures)
+loop-again c =
+    let l = c .before .before .before .before .before .before .before .before .before .before .before .before .before .loop in
+    let loop-test = c .before .before .before .before .before .before .before .before .before .before .before .before .loop-test in
+    let edge = c .before .before .before .before .before .before .before .before .before .before .before .edge in
+    let edge2 = c .before .before .before .before .before .before .before .before .before .before .edge2 in
+    let lesser = c .before .before .before .before .before .before .before .before .before .lesser in
+    let label-of = c .before .before .before .before .before .before .label-of in
+    let asks = c .before .before .before .before .before .before .before .before .asks in
+    let asks2 = c .before .before .before .before .before .before .before .asks2 in
+    let turned = c .before .before .before .before .turned in
+    walk-turn _ _ _ _ _ _ _ _ _ _ _ _ _ _ (l .inv) (loop-test .taken) _ _ _ (edge .ensures .0) (edge .ensures .1) (edge2 .ensures .0)
+    (edge2 .ensures .1) (lesser .ensures) _ _ _ _ _ _ _ _ _ _ _ (label-of .ensures) (asks .ensures) (asks2 .ensures) (turned .ensures .0)
+    (turned .ensures .1) (c .before .passed .ensures) (c .passed2 .ensures)
 
 close-requires : tie.Need-close-requires Inv-loop μ-loop
 close-requires c κs = omega (arith, c .before .before .loop .inv .few, c .before .before .loop .inv .inside)
 
 same-length : tie.Need-same-length Inv-loop μ-loop
-same-length c = ap length (c .before .before .close .ensures .1) ∙ length-closed-into _ _ _ _ ∙ c .before .before .before .before .before .loop .inv .kept
+same-length c =
+    let close = c .before .before .close in
+    let l = c .before .before .before .before .before .loop in
+    ap length (close .ensures .1) ∙ length-closed-into _ _ _ _ ∙ l .inv .kept
 
 returns : tie.Need-returns Inv-loop μ-loop
-returns c = walk-end _ _ _ _ _ _ _ _ _ _ _ _ _ _ (c .before .before .before .before .before .loop .inv) (c .before .before .before .before .loop-test .left) _ _ (c .before .before .close .ensures .0) (c .before .before .close .ensures .1)
+returns c =
+    let l = c .before .before .before .before .before .loop in
+    let loop-test = c .before .before .before .before .loop-test in
+    let close = c .before .before .close in
+    walk-end _ _ _ _ _ _ _ _ _ _ _ _ _ _ (l .inv) (loop-test .left) _ _ (close .ensures .0) (close .ensures .1)
 
 pub merge-spec : {M : Type 1} → statement M
 merge-spec =

@@ -12,7 +12,11 @@ first-out-of-order-requires : tie.Need-first-out-of-order-requires
 first-out-of-order-requires c κs = search needs
 
 returns : tie.Need-returns
-returns c = (area-metadata _ _ _ _ (c .before .behind-metadata .ensures .0) (c .before .behind-metadata .ensures .1), area-others _ _ _ _ (c .before .behind-metadata .ensures .0) (c .before .behind-metadata .ensures .1), area-disorder _ _ _ _ (c .before .behind-metadata .ensures .0) (c .before .behind-metadata .ensures .1) _ (c .first-out-of-order .ensures))
+returns c = (
+  area-metadata _ _ _ _ (c .before .behind-metadata .ensures .0) (c .before .behind-metadata .ensures .1),
+  area-others _ _ _ _ (c .before .behind-metadata .ensures .0) (c .before .behind-metadata .ensures .1),
+  area-disorder _ _ _ _ (c .before .behind-metadata .ensures .0) (c .before .behind-metadata .ensures .1) _ (c .first-out-of-order .ensures),
+)
 
 pub asked-in-spec : {M : Type 1} → statement M
 asked-in-spec = tie.close (tie.spec behind-metadata-requires first-out-of-order-requires returns)

@@ -30,25 +30,55 @@ enum-told : tie.Need-enum-told Inv-loop μ-loop
 enum-told c = search needs
 
 returns : tie.Need-returns Inv-loop μ-loop
-returns c = sym (order-end _ _ _ (area-over _ _ _ (sym (c .enum-told .given .1) ∙ c .before .before .next .ensures))) ∙ c .before .before .before .loop .inv .1
+returns c =
+    let next = c .before .before .next in
+    let l = c .before .before .before .loop in
+    sym (order-end _ _ _ (area-over _ _ _ (sym (c .enum-told .given .1) ∙ next .ensures))) ∙ l .inv .1
 
 enum-known-found : tie.Need-enum-known-found Inv-loop μ-loop
 enum-known-found c = search needs
 
 returns-2 : tie.Need-returns-2 Inv-loop μ-loop
-returns-2 c = sym (order-before _ _ _ _ _ _ (area-step _ _ _ _ _ _ (sym (c .before .before .found .given .1) ∙ c .before .before .before .before .next .ensures) .0) (c .if1 .taken)) ∙ c .before .before .before .before .before .loop .inv .1
+returns-2 c =
+    let found = c .before .before .found in
+    let next = c .before .before .before .before .next in
+    let l = c .before .before .before .before .before .loop in
+    sym (order-before _ _ _ _ _ _ (area-step _ _ _ _ _ _ (sym (found .given .1) ∙ next .ensures) .0) (c .if1 .taken)) ∙ l .inv .1
 
 returns-3 : tie.Need-returns-3 Inv-loop μ-loop
-returns-3 c = sym (order-empty _ _ _ _ _ _ (area-step _ _ _ _ _ _ (sym (c .before .before .before .found .given .1) ∙ c .before .before .before .before .before .next .ensures) .0) (c .if2 .taken)) ∙ c .before .before .before .before .before .before .loop .inv .1
+returns-3 c =
+    let found = c .before .before .before .found in
+    let next = c .before .before .before .before .before .next in
+    let l = c .before .before .before .before .before .before .loop in
+    sym (order-empty _ _ _ _ _ _ (area-step _ _ _ _ _ _ (sym (found .given .1) ∙ next .ensures) .0) (c .if2 .taken)) ∙ l .inv .1
 
 add-i : tie.Need-add-i Inv-loop μ-loop
-add-i c = record { fits = omega (arith, area-step _ _ _ _ _ _ (sym (c .before .before .before .found .given .1) ∙ c .before .before .before .before .before .next .ensures) .2, c .before .before .before .before .before .before .loop .inv .0, size-positive (c .before .before .before .before .before .before .before .before .args .file)) }
+add-i c =
+    let found = c .before .before .before .found in
+    let next = c .before .before .before .before .before .next in
+    let l = c .before .before .before .before .before .before .loop in
+    let a = c .before .before .before .before .before .before .before .before .args in
+    record { fits = omega (arith, area-step _ _ _ _ _ _ (sym (found .given .1) ∙ next .ensures) .2, l .inv .0, size-positive (a .file)) }
 
 loop-less : tie.Need-loop-less Inv-loop μ-loop
-loop-less c = omega (arith, area-step _ _ _ _ _ _ (sym (c .before .before .before .found .given .1) ∙ c .before .before .before .before .before .next .ensures) .1, area-step _ _ _ _ _ _ (sym (c .before .before .before .found .given .1) ∙ c .before .before .before .before .before .next .ensures) .2, size-positive (c .before .before .before .before .before .before .before .before .args .file))
+loop-less c =
+    let found = c .before .before .before .found in
+    let next = c .before .before .before .before .before .next in
+    let a = c .before .before .before .before .before .before .before .before .args in
+    omega
+    (arith, area-step _ _ _ _ _ _ (sym (found .given .1) ∙ next .ensures) .1, area-step _ _ _ _ _ _ (sym (found .given .1) ∙ next .ensures) .2, size-positive (a .file))
 
 loop-again : tie.Need-loop-again Inv-loop μ-loop
-loop-again c = (omega (arith, area-step _ _ _ _ _ _ (sym (c .before .before .before .found .given .1) ∙ c .before .before .before .before .before .next .ensures) .1, c .before .before .before .before .before .before .loop .inv .0, size-positive (c .before .before .before .before .before .before .before .before .args .file)), sym (order-goes-on _ _ _ _ _ _ (area-step _ _ _ _ _ _ (sym (c .before .before .before .found .given .1) ∙ c .before .before .before .before .before .next .ensures) .0) (c .before .if1 .left) (c .if2 .left)) ∙ c .before .before .before .before .before .before .loop .inv .1)
+loop-again c =
+    let found = c .before .before .before .found in
+    let next = c .before .before .before .before .before .next in
+    let l = c .before .before .before .before .before .before .loop in
+    let a = c .before .before .before .before .before .before .before .before .args in (
+      omega (arith, area-step _ _ _ _ _ _ (sym (found .given .1) ∙ next .ensures) .1, l .inv .0, size-positive (a .file)),
+      sym
+          (order-goes-on _ _ _ _ _ _ (area-step _ _ _ _ _ _ (sym (found .given .1) ∙ next .ensures) .0) (c .before .if1 .left) (c .if2 .left))
+          ∙ l .inv .1,
+    )
 
 pub first-out-of-order-spec : {M : Type 1} → statement M
 first-out-of-order-spec =

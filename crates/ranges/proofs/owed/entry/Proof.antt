@@ -27,7 +27,10 @@ value-requires : tie.Need-value-requires
 value-requires c κs = search needs
 
 take-contents-requires : tie.Need-take-contents-requires
-take-contents-requires c κs = (sym (c .before .before .before .before .before .before .before .is-state .ensures) ∙ not-false _ (c .before .before .before .before .before .before .if1 .left))
+take-contents-requires c κs =
+    let is-state = c .before .before .before .before .before .before .before .is-state in
+    let if1 = c .before .before .before .before .before .before .if1 in
+    (sym (is-state .ensures) ∙ not-false _ (if1 .left))
 
 enum-known-judged : tie.Need-enum-known-judged
 enum-known-judged c = search needs
@@ -36,13 +39,33 @@ enum-told-2 : tie.Need-enum-told-2
 enum-told-2 c = search needs
 
 returns-2 : tie.Need-returns-2
-returns-2 c = entry-cut _ _ _ (sym (c .before .before .before .before .is-state .ensures) ∙ not-false _ (c .before .before .before .if1 .left)) _ (sym (c .enum-told .given .1) ∙ c .before .before .field-in .ensures)
+returns-2 c =
+    let is-state = c .before .before .before .before .is-state in
+    let if1 = c .before .before .before .if1 in
+    let field-in = c .before .before .field-in in
+    entry-cut _ _ _ (sym (is-state .ensures) ∙ not-false _ (if1 .left)) _ (sym (c .enum-told .given .1) ∙ field-in .ensures)
 
 returns-3 : tie.Need-returns-3
-returns-3 c = entry-refused _ _ _ (sym (c .before .before .before .before .before .before .before .before .before .before .before .is-state .ensures) ∙ not-false _ (c .before .before .before .before .before .before .before .before .before .before .if1 .left)) _ (sym (c .before .before .before .before .before .before .before .found .given .1) ∙ c .before .before .before .before .before .before .before .before .before .field-in .ensures) _ _ _ (c .before .before .before .before .before .value .ensures) (c .before .before .before .take-contents .ensures) _ (ap judgedAnswer (sym (c .before .judged .given .1)))
+returns-3 c =
+    let is-state = c .before .before .before .before .before .before .before .before .before .before .before .is-state in
+    let if1 = c .before .before .before .before .before .before .before .before .before .before .if1 in
+    let found = c .before .before .before .before .before .before .before .found in
+    let field-in = c .before .before .before .before .before .before .before .before .before .field-in in
+    let value = c .before .before .before .before .before .value in
+    let take-contents = c .before .before .before .take-contents in
+    entry-refused _ _ _ (sym (is-state .ensures) ∙ not-false _ (if1 .left)) _ (sym (found .given .1) ∙ field-in .ensures) _ _ _
+    (value .ensures) (take-contents .ensures) _ (ap judgedAnswer (sym (c .before .judged .given .1)))
 
 returns-4 : tie.Need-returns-4
-returns-4 c = entry-passed _ _ _ (sym (c .before .before .before .before .before .before .before .before .before .before .is-state .ensures) ∙ not-false _ (c .before .before .before .before .before .before .before .before .before .if1 .left)) _ (sym (c .before .before .before .before .before .before .found .given .1) ∙ c .before .before .before .before .before .before .before .before .field-in .ensures) _ _ _ (c .before .before .before .before .value .ensures) (c .before .before .take-contents .ensures) (ap judgedAnswer (sym (c .enum-told2 .given .1)))
+returns-4 c =
+    let is-state = c .before .before .before .before .before .before .before .before .before .before .is-state in
+    let if1 = c .before .before .before .before .before .before .before .before .before .if1 in
+    let found = c .before .before .before .before .before .before .found in
+    let field-in = c .before .before .before .before .before .before .before .before .field-in in
+    let value = c .before .before .before .before .value in
+    let take-contents = c .before .before .take-contents in
+    entry-passed _ _ _ (sym (is-state .ensures) ∙ not-false _ (if1 .left)) _ (sym (found .given .1) ∙ field-in .ensures) _ _ _
+    (value .ensures) (take-contents .ensures) (ap judgedAnswer (sym (c .enum-told2 .given .1)))
 
 pub entry-spec : {M : Type 1} → statement M
 entry-spec =

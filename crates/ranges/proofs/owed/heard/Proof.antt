@@ -24,7 +24,13 @@ asked-in-requires : tie.Need-asked-in-requires
 asked-in-requires c κs = search needs
 
 returns : tie.Need-returns
-returns c = heard-wrong _ _ _ _ (ap nakAnswer (sym (c .before .before .before .before .before .before .read2 .given .1)) ∙ c .before .before .before .before .before .before .before .before .from-bytes .ensures) _ _ (c .before .before .before .request-area .ensures) (c .before .before .asked-in .ensures .2) (c .if1 .taken)
+returns c =
+    let read2 = c .before .before .before .before .before .before .read2 in
+    let from-bytes = c .before .before .before .before .before .before .before .before .from-bytes in
+    let request-area = c .before .before .before .request-area in
+    let asked-in = c .before .before .asked-in in
+    heard-wrong _ _ _ _ (ap nakAnswer (sym (read2 .given .1)) ∙ from-bytes .ensures) _ _ (request-area .ensures) (asked-in .ensures .2)
+    (c .if1 .taken)
 
 first-in-requires : tie.Need-first-in-requires
 first-in-requires c κs = search needs
@@ -33,7 +39,15 @@ differs-requires : tie.Need-differs-requires
 differs-requires c κs = search needs
 
 returns-2 : tie.Need-returns-2
-returns-2 c = heard-differs _ _ _ _ (ap nakAnswer (sym (c .before .before .before .before .before .before .before .before .before .before .read2 .given .1)) ∙ c .before .before .before .before .before .before .before .before .before .before .before .before .from-bytes .ensures) _ _ (c .before .before .before .before .before .before .before .request-area .ensures) (c .before .before .before .before .before .before .asked-in .ensures .2) (c .before .before .before .before .if1 .left) _ _ (c .before .before .first-in .ensures) (c .before .differs .ensures) (c .if2 .taken)
+returns-2 c =
+    let read2 = c .before .before .before .before .before .before .before .before .before .before .read2 in
+    let from-bytes = c .before .before .before .before .before .before .before .before .before .before .before .before .from-bytes in
+    let request-area = c .before .before .before .before .before .before .before .request-area in
+    let asked-in = c .before .before .before .before .before .before .asked-in in
+    let if1 = c .before .before .before .before .if1 in
+    let first-in = c .before .before .first-in in
+    heard-differs _ _ _ _ (ap nakAnswer (sym (read2 .given .1)) ∙ from-bytes .ensures) _ _ (request-area .ensures) (asked-in .ensures .2)
+    (if1 .left) _ _ (first-in .ensures) (c .before .differs .ensures) (c .if2 .taken)
 
 slice-aggregate-owe : tie.Need-slice-aggregate-owe
 slice-aggregate-owe c = search needs
@@ -42,13 +56,28 @@ after-requires : tie.Need-after-requires
 after-requires c κs = search needs
 
 owe-requires : tie.Need-owe-requires
-owe-requires c κs = (c .before .before .before .before .before .before .before .before .before .before .before .before .before .before .before .before .before .pre, rw (c .before .before .before .before .before .before .before .before .before .asked-in .ensures .1) (disorder-none _ (sym (c .before .before .before .before .before .before .before .before .before .asked-in .ensures .2) ∙ c .before .before .before .before .before .before .before .if1 .left)))
+owe-requires c κs =
+    let pre = c .before .before .before .before .before .before .before .before .before .before .before .before .before .before .before .before .before .pre in
+    let asked-in = c .before .before .before .before .before .before .before .before .before .asked-in in
+    let if1 = c .before .before .before .before .before .before .before .if1 in
+    (pre, rw (asked-in .ensures .1) (disorder-none _ (sym (asked-in .ensures .2) ∙ if1 .left)))
 
 returns-3 : tie.Need-returns-3
 returns-3 c = heard-refused _ _ _ _ (ap nakAnswer (sym (c .before .read .given .1)) ∙ c .before .before .before .from-bytes .ensures)
 
 returns-4 : tie.Need-returns-4
-returns-4 c = heard-owes _ _ _ _ (ap nakAnswer (sym (c .before .before .before .before .before .before .before .before .before .before .before .before .before .before .read2 .given .1)) ∙ c .before .before .before .before .before .before .before .before .before .before .before .before .before .before .before .before .from-bytes .ensures) _ _ (c .before .before .before .before .before .before .before .before .before .before .before .request-area .ensures) (c .before .before .before .before .before .before .before .before .before .before .asked-in .ensures .2) (c .before .before .before .before .before .before .before .before .if1 .left) _ _ (c .before .before .before .before .before .before .first-in .ensures) (c .before .before .before .before .before .differs .ensures) (c .before .before .before .before .if2 .left) _ (c .before .before .after .ensures) _ (c .before .before .before .before .before .before .before .before .before .before .asked-in .ensures .1) _ _ (c .owe .ensures)
+returns-4 c =
+    let read2 = c .before .before .before .before .before .before .before .before .before .before .before .before .before .before .read2 in
+    let from-bytes = c .before .before .before .before .before .before .before .before .before .before .before .before .before .before .before .before .from-bytes in
+    let request-area = c .before .before .before .before .before .before .before .before .before .before .before .request-area in
+    let asked-in = c .before .before .before .before .before .before .before .before .before .before .asked-in in
+    let if1 = c .before .before .before .before .before .before .before .before .if1 in
+    let first-in = c .before .before .before .before .before .before .first-in in
+    let differs = c .before .before .before .before .before .differs in
+    let if2 = c .before .before .before .before .if2 in
+    let after = c .before .before .after in
+    heard-owes _ _ _ _ (ap nakAnswer (sym (read2 .given .1)) ∙ from-bytes .ensures) _ _ (request-area .ensures) (asked-in .ensures .2)
+    (if1 .left) _ _ (first-in .ensures) (differs .ensures) (if2 .left) _ (after .ensures) _ (asked-in .ensures .1) _ _ (c .owe .ensures)
 
 pub heard-spec : {M : Type 1} → statement M
 heard-spec =

@@ -14,7 +14,9 @@ slice-aggregate-merged-with : tie.Need-slice-aggregate-merged-with
 slice-aggregate-merged-with c = search needs
 
 merged-with-requires : tie.Need-merged-with-requires
-merged-with-requires c κs = (omega (arith, c .before .merged-with-arg2 .given .0, is-state _ (c .before .before .before .before .before .before .pre .0) .0), is-state _ (c .before .before .before .before .before .before .pre .0) .1, c .before .before .before .before .before .before .pre .1)
+merged-with-requires c κs =
+    let pre = c .before .before .before .before .before .before .pre in
+    (omega (arith, c .before .merged-with-arg2 .given .0, is-state _ (pre .0) .0), is-state _ (pre .0) .1, pre .1)
 
 returns : tie.Need-returns
 returns c = owe-many _ _ _ _ _ (c .before .before .merged-with .ensures .0) (c .if1 .taken)
@@ -23,7 +25,10 @@ put-requires : tie.Need-put-requires
 put-requires c κs = search needs
 
 returns-2 : tie.Need-returns-2
-returns-2 c = owe-done _ _ _ _ _ (c .before .before .before .before .merged-with .ensures .0) _ _ (c .before .before .if1 .left) (c .before .before .before .before .merged-with .ensures .1) (c .put .ensures)
+returns-2 c =
+    let merged-with = c .before .before .before .before .merged-with in
+    let if1 = c .before .before .if1 in
+    owe-done _ _ _ _ _ (merged-with .ensures .0) _ _ (if1 .left) (merged-with .ensures .1) (c .put .ensures)
 
 pub owe-spec : {M : Type 1} → statement M
 owe-spec =

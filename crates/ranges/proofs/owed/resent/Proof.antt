@@ -15,7 +15,12 @@ read-be-requires-2 : tie.Need-read-be-requires-2
 read-be-requires-2 c κs = search needs
 
 returns : tie.Need-returns
-returns c = resent-wrong _ _ _ _ _ (c .before .before .read-be .ensures .0 ∙ at-number (c .before .before .before .before .args .contents .now) 0 8 (omega arith) (omega (arith, c .before .before .before .before .pre .1))) (c .before .read-be2 .ensures .0 ∙ at-number (c .before .before .before .before .args .contents .now) 8 8 (omega arith) (omega (arith, c .before .before .before .before .pre .1))) (c .if1 .taken)
+returns c =
+    let read-be = c .before .before .read-be in
+    let a = c .before .before .before .before .args in
+    let pre = c .before .before .before .before .pre in
+    resent-wrong _ _ _ _ _ (read-be .ensures .0 ∙ at-number (a .contents .now) 0 8 (omega arith) (omega (arith, pre .1)))
+    (c .before .read-be2 .ensures .0 ∙ at-number (a .contents .now) 8 8 (omega arith) (omega (arith, pre .1))) (c .if1 .taken)
 
 first-in-requires : tie.Need-first-in-requires
 first-in-requires c κs = search needs
@@ -27,7 +32,16 @@ owe-requires : tie.Need-owe-requires
 owe-requires c κs = search needs
 
 returns-2 : tie.Need-returns-2
-returns-2 c = resent-owes _ _ _ _ _ (c .before .before .before .before .before .before .before .read-be .ensures .0 ∙ at-number (c .before .before .before .before .before .before .before .before .before .args .contents .now) 0 8 (omega arith) (omega (arith, c .before .before .before .before .before .before .before .before .before .pre .1))) (c .before .before .before .before .before .before .read-be2 .ensures .0 ∙ at-number (c .before .before .before .before .before .before .before .before .before .args .contents .now) 8 8 (omega arith) (omega (arith, c .before .before .before .before .before .before .before .before .before .pre .1))) (c .before .before .before .before .before .if1 .left) _ (c .before .before .before .first-in .ensures) _ _ (c .owe .ensures)
+returns-2 c =
+    let read-be = c .before .before .before .before .before .before .before .read-be in
+    let a = c .before .before .before .before .before .before .before .before .before .args in
+    let pre = c .before .before .before .before .before .before .before .before .before .pre in
+    let read-be2 = c .before .before .before .before .before .before .read-be2 in
+    let if1 = c .before .before .before .before .before .if1 in
+    let first-in = c .before .before .before .first-in in
+    resent-owes _ _ _ _ _ (read-be .ensures .0 ∙ at-number (a .contents .now) 0 8 (omega arith) (omega (arith, pre .1)))
+    (read-be2 .ensures .0 ∙ at-number (a .contents .now) 8 8 (omega arith) (omega (arith, pre .1))) (if1 .left) _ (first-in .ensures) _ _
+    (c .owe .ensures)
 
 pub resent-spec : {M : Type 1} → statement M
 resent-spec =

@@ -42,10 +42,18 @@ shared-slice-read-to : tie.Need-shared-slice-read-to Inv-loop μ-loop
 shared-slice-read-to c = search needs
 
 returns : tie.Need-returns Inv-loop μ-loop
-returns c = rise-before _ _ _ _ (c .before .before .before .before .before .pre .0) (c .before .before .before .loop-test .taken) _ (c .if1 .taken) (c .before .before .before .before .loop .inv .1)
+returns c =
+    let pre = c .before .before .before .before .before .pre in
+    let loop-test = c .before .before .before .loop-test in
+    let l = c .before .before .before .before .loop in
+    rise-before _ _ _ _ (pre .0) (loop-test .taken) _ (c .if1 .taken) (l .inv .1)
 
 returns-2 : tie.Need-returns-2 Inv-loop μ-loop
-returns-2 c = rise-empty _ _ _ _ (c .before .before .before .before .before .before .pre .0) (c .before .before .before .before .loop-test .taken) _ (c .if2 .taken) (c .before .before .before .before .before .loop .inv .1)
+returns-2 c =
+    let pre = c .before .before .before .before .before .before .pre in
+    let loop-test = c .before .before .before .before .loop-test in
+    let l = c .before .before .before .before .before .loop in
+    rise-empty _ _ _ _ (pre .0) (loop-test .taken) _ (c .if2 .taken) (l .inv .1)
 
 add-i : tie.Need-add-i Inv-loop μ-loop
 add-i c = search needs
@@ -54,10 +62,17 @@ loop-less : tie.Need-loop-less Inv-loop μ-loop
 loop-less c = search needs
 
 loop-again : tie.Need-loop-again Inv-loop μ-loop
-loop-again c = (omega arith, rise-on _ _ _ _ (c .before .before .before .before .before .before .pre .0) (c .before .before .before .before .loop-test .taken) _ (c .before .if1 .left) (c .if2 .left) (c .before .before .before .before .before .loop .inv .1))
+loop-again c =
+    let pre = c .before .before .before .before .before .before .pre in
+    let loop-test = c .before .before .before .before .loop-test in
+    let l = c .before .before .before .before .before .loop in
+    (omega arith, rise-on _ _ _ _ (pre .0) (loop-test .taken) _ (c .before .if1 .left) (c .if2 .left) (l .inv .1))
 
 returns-3 : tie.Need-returns-3 Inv-loop μ-loop
-returns-3 c = rise-all (c .before .before .args .state .now) (c .before .before .args .count) _ _ _ (c .before .before .pre .0) (c .loop-test .left) (c .before .loop .inv .1)
+returns-3 c =
+    let a = c .before .before .args in
+    let pre = c .before .before .pre in
+    rise-all (a .state .now) (a .count) _ _ _ (pre .0) (c .loop-test .left) (c .before .loop .inv .1)
 
 pub rise-spec : {M : Type 1} → statement M
 rise-spec =

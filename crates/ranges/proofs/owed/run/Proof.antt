@@ -36,19 +36,43 @@ enum-known-taken : tie.Need-enum-known-taken Inv-loop μ-loop
 enum-known-taken c = search needs
 
 returns : tie.Need-returns Inv-loop μ-loop
-returns c = run-refused _ _ _ _ _ (c .before .before .before .before .before .before .before .loop .inv) (c .before .before .before .before .before .before .loop-test .taken) _ (take-all (length (c .before .before .before .before .before .before .before .before .before .args .log .now) - c .before .before .before .before .before .before .before .loop .at) (drop (c .before .before .before .before .before .before .before .loop .at) (c .before .before .before .before .before .before .before .before .before .args .log .now)) (omega (arith, length-drop (c .before .before .before .before .before .before .before .loop .at) (c .before .before .before .before .before .before .before .before .before .args .log .now)))) _ (c .before .before .before .entry .ensures .1) _ (ap entryAnswer (sym (c .before .taken .given .1)) ∙ c .before .before .before .entry .ensures .0)
+returns c =
+    let l = c .before .before .before .before .before .before .before .loop in
+    let loop-test = c .before .before .before .before .before .before .loop-test in
+    let a = c .before .before .before .before .before .before .before .before .before .args in
+    let entry = c .before .before .before .entry in
+    run-refused _ _ _ _ _ (l .inv) (loop-test .taken) _
+    (take-all (length (a .log .now) - l .at) (drop (l .at) (a .log .now)) (omega (arith, length-drop (l .at) (a .log .now)))) _
+    (entry .ensures .1) _ (ap entryAnswer (sym (c .before .taken .given .1)) ∙ entry .ensures .0)
 
 enum-known-taken-2 : tie.Need-enum-known-taken-2 Inv-loop μ-loop
 enum-known-taken-2 c = search needs
 
 add-at : tie.Need-add-at Inv-loop μ-loop
-add-at c = record { fits = omega (arith, (run-turn _ _ _ _ _ (c .before .before .before .before .before .before .before .loop .inv) (c .before .before .before .before .before .before .loop-test .taken) _ (take-all (length (c .before .before .before .before .before .before .before .before .before .args .log .now) - c .before .before .before .before .before .before .before .loop .at) (drop (c .before .before .before .before .before .before .before .loop .at) (c .before .before .before .before .before .before .before .before .before .args .log .now)) (omega (arith, length-drop (c .before .before .before .before .before .before .before .loop .at) (c .before .before .before .before .before .before .before .before .before .args .log .now)))) _ (c .before .before .before .entry .ensures .1) _ (ap entryAnswer (sym (c .before .taken2 .given .1)) ∙ c .before .before .before .entry .ensures .0)) .1, c .before .before .before .before .before .before .before .before .before .good) }
+add-at c =
+    let l = c .before .before .before .before .before .before .before .loop in
+    let loop-test = c .before .before .before .before .before .before .loop-test in
+    let a = c .before .before .before .before .before .before .before .before .before .args in
+    let entry = c .before .before .before .entry in
+    let good = c .before .before .before .before .before .before .before .before .before .good in
+    record { fits = omega (arith, (run-turn _ _ _ _ _ (l .inv) (loop-test .taken) _ (take-all (length (a .log .now) - l .at) (drop (l .at) (a .log .now)) (omega (arith, length-drop (l .at) (a .log .now)))) _ (entry .ensures .1) _ (ap entryAnswer (sym (c .before .taken2 .given .1)) ∙ entry .ensures .0)) .1, good) }
 
 loop-less : tie.Need-loop-less Inv-loop μ-loop
-loop-less c = omega (arith, (run-turn _ _ _ _ _ (c .before .before .before .before .before .before .before .loop .inv) (c .before .before .before .before .before .before .loop-test .taken) _ (take-all (length (c .before .before .before .before .before .before .before .before .before .args .log .now) - c .before .before .before .before .before .before .before .loop .at) (drop (c .before .before .before .before .before .before .before .loop .at) (c .before .before .before .before .before .before .before .before .before .args .log .now)) (omega (arith, length-drop (c .before .before .before .before .before .before .before .loop .at) (c .before .before .before .before .before .before .before .before .before .args .log .now)))) _ (c .before .before .before .entry .ensures .1) _ (ap entryAnswer (sym (c .before .taken2 .given .1)) ∙ c .before .before .before .entry .ensures .0)) .1, (run-turn _ _ _ _ _ (c .before .before .before .before .before .before .before .loop .inv) (c .before .before .before .before .before .before .loop-test .taken) _ (take-all (length (c .before .before .before .before .before .before .before .before .before .args .log .now) - c .before .before .before .before .before .before .before .loop .at) (drop (c .before .before .before .before .before .before .before .loop .at) (c .before .before .before .before .before .before .before .before .before .args .log .now)) (omega (arith, length-drop (c .before .before .before .before .before .before .before .loop .at) (c .before .before .before .before .before .before .before .before .before .args .log .now)))) _ (c .before .before .before .entry .ensures .1) _ (ap entryAnswer (sym (c .before .taken2 .given .1)) ∙ c .before .before .before .entry .ensures .0)) .2)
+loop-less c =
+    let l = c .before .before .before .before .before .before .before .loop in
+    let loop-test = c .before .before .before .before .before .before .loop-test in
+    let a = c .before .before .before .before .before .before .before .before .before .args in
+    let entry = c .before .before .before .entry in
+    omega
+    (arith, (run-turn _ _ _ _ _ (l .inv) (loop-test .taken) _ (take-all (length (a .log .now) - l .at) (drop (l .at) (a .log .now)) (omega (arith, length-drop (l .at) (a .log .now)))) _ (entry .ensures .1) _ (ap entryAnswer (sym (c .before .taken2 .given .1)) ∙ entry .ensures .0)) .1, (run-turn _ _ _ _ _ (l .inv) (loop-test .taken) _ (take-all (length (a .log .now) - l .at) (drop (l .at) (a .log .now)) (omega (arith, length-drop (l .at) (a .log .now)))) _ (entry .ensures .1) _ (ap entryAnswer (sym (c .before .taken2 .given .1)) ∙ entry .ensures .0)) .2)
 
 loop-again : tie.Need-loop-again Inv-loop μ-loop
-loop-again c = (run-turn _ _ _ _ _ (c .before .before .before .before .before .before .before .loop .inv) (c .before .before .before .before .before .before .loop-test .taken) _ (take-all (length (c .before .before .before .before .before .before .before .before .before .args .log .now) - c .before .before .before .before .before .before .before .loop .at) (drop (c .before .before .before .before .before .before .before .loop .at) (c .before .before .before .before .before .before .before .before .before .args .log .now)) (omega (arith, length-drop (c .before .before .before .before .before .before .before .loop .at) (c .before .before .before .before .before .before .before .before .before .args .log .now)))) _ (c .before .before .before .entry .ensures .1) _ (ap entryAnswer (sym (c .before .taken2 .given .1)) ∙ c .before .before .before .entry .ensures .0)) .0
+loop-again c =
+    let l = c .before .before .before .before .before .before .before .loop in
+    let loop-test = c .before .before .before .before .before .before .loop-test in
+    let a = c .before .before .before .before .before .before .before .before .before .args in
+    let entry = c .before .before .before .entry in
+    (run-turn _ _ _ _ _ (l .inv) (loop-test .taken) _ (take-all (length (a .log .now) - l .at) (drop (l .at) (a .log .now)) (omega (arith, length-drop (l .at) (a .log .now)))) _ (entry .ensures .1) _ (ap entryAnswer (sym (c .before .taken2 .given .1)) ∙ entry .ensures .0)) .0
 
 returns-2 : tie.Need-returns-2 Inv-loop μ-loop
 returns-2 c = run-end _ _ _ _ _ (c .before .loop .inv) (c .loop-test .left)

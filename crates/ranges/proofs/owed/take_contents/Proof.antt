@@ -21,7 +21,11 @@ resent-requires : tie.Need-resent-requires
 resent-requires c κs = search needs
 
 returns-4 : tie.Need-returns-4
-returns-4 c = tag-resent _ _ _ _ (c .before .before .before .before .if1 .left) (c .before .before .before .if2 .left) (c .before .before .if3 .left) _ _ (c .resent .ensures)
+returns-4 c =
+    let if1 = c .before .before .before .before .if1 in
+    let if2 = c .before .before .before .if2 in
+    let if3 = c .before .before .if3 in
+    tag-resent _ _ _ _ (if1 .left) (if2 .left) (if3 .left) _ _ (c .resent .ensures)
 
 pub take-contents-spec : {M : Type 1} → statement M
 take-contents-spec =

@@ -20,8 +20,9 @@ read-be-requires c κs = search needs
 
 returns : tie.Need-returns
 returns c =
+    let pre = c .before .before .before .before .pre in
     let tag = c .before .before .tag-len .ensures .0 in
-    length-read _ _ _ _ (c .before .before .before .before .pre) _ _ (omega arith) (c .before .length-len .ensures .0) (c .read-be .ensures .0) (c .read-be .ensures .1)
+    length-read _ _ _ _ pre _ _ (omega arith) (c .before .length-len .ensures .0) (c .read-be .ensures .0) (c .read-be .ensures .1)
 
 pub length-at-spec : {M : Type 1} → statement M
 length-at-spec =

@@ -16,16 +16,27 @@ enum-known-found : tie.Need-enum-known-found
 enum-known-found c = search needs
 
 returns : tie.Need-returns
-returns c = other-type _ _ _ _ _ (sym (c .before .before .before .found .given .1) ∙ c .before .before .before .before .before .field-in .ensures) (c .if1 .taken)
+returns c =
+    let found = c .before .before .before .found in
+    let field-in = c .before .before .before .before .before .field-in in
+    other-type _ _ _ _ _ (sym (found .given .1) ∙ field-in .ensures) (c .if1 .taken)
 
 returns-2 : tie.Need-returns-2
-returns-2 c = more-behind _ _ _ _ _ (sym (c .before .before .before .before .before .found .given .1) ∙ c .before .before .before .before .before .before .before .field-in .ensures) (c .before .before .if1 .left) (c .if2 .taken)
+returns-2 c =
+    let found = c .before .before .before .before .before .found in
+    let field-in = c .before .before .before .before .before .before .before .field-in in
+    let if1 = c .before .before .if1 in
+    more-behind _ _ _ _ _ (sym (found .given .1) ∙ field-in .ensures) (if1 .left) (c .if2 .taken)
 
 returns-3 : tie.Need-returns-3
 returns-3 c = only-cut _ _ _ _ _ (sym (c .enum-told .given .1) ∙ c .before .before .field-in .ensures)
 
 returns-4 : tie.Need-returns-4
-returns-4 c = the-only _ _ _ _ _ (sym (c .before .before .before .before .before .found .given .1) ∙ c .before .before .before .before .before .before .before .field-in .ensures) (c .before .before .if1 .left) (c .if2 .left)
+returns-4 c =
+    let found = c .before .before .before .before .before .found in
+    let field-in = c .before .before .before .before .before .before .before .field-in in
+    let if1 = c .before .before .if1 in
+    the-only _ _ _ _ _ (sym (found .given .1) ∙ field-in .ensures) (if1 .left) (c .if2 .left)
 
 pub only-field-spec : {M : Type 1} → statement M
 only-field-spec =

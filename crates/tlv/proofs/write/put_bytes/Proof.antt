@@ -20,7 +20,11 @@ same-length : tie.Need-same-length
 same-length c = search needs
 
 returns-2 : tie.Need-returns-2
-returns-2 c = c .before .before .copy .ensures ∙ bytes-stored _ _ _ (sym (c .before .before .before .before .before .has-room .ensures) ∙ not-false _ (c .before .before .before .before .if1 .left))
+returns-2 c =
+    let copy = c .before .before .copy in
+    let has-room = c .before .before .before .before .before .has-room in
+    let if1 = c .before .before .before .before .if1 in
+    copy .ensures ∙ bytes-stored _ _ _ (sym (has-room .ensures) ∙ not-false _ (if1 .left))
 
 pub put-bytes-spec : {M : Type 1} → statement M
 put-bytes-spec = tie.close (tie.spec has-room-requires returns copy-requires same-length returns-2)

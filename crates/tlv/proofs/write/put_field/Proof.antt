@@ -33,16 +33,21 @@ store-field-requires c κs =
     let room = c .before in
     let fit = room .before .before .before in
     let a = fit .before .before .before .before .before .args in
-    let-through (a .form) (a .buf .now) (a .value .now) (a .at) (a .tag) _ _ (fit .before .before .length-len .ensures .0) (room .before .before .head-len .ensures .0) (sym (fit .before .fits2 .ensures) ∙ not-false _ (fit .if1 .left)) (sym (room .before .has-room .ensures) ∙ not-false _ (room .if2 .left))
+    let-through (a .form) (a .buf .now) (a .value .now) (a .at) (a .tag) _ _ (fit .before .before .length-len .ensures .0)
+    (room .before .before .head-len .ensures .0) (sym (fit .before .fits2 .ensures) ∙ not-false _ (fit .if1 .left))
+    (sym (room .before .has-room .ensures) ∙ not-false _ (room .if2 .left))
 
 same-length : tie.Need-same-length
 same-length c = search needs
 
 returns-3 : tie.Need-returns-3
 returns-3 c =
+    let store-field = c .before .before .store-field in
     let room = c .before .before .before .before in
     let fit = room .before .before .before in
-    field-put _ _ _ _ _ _ _ (fit .before .before .length-len .ensures .0) (room .before .before .head-len .ensures .0) (sym (fit .before .fits2 .ensures) ∙ not-false _ (fit .if1 .left)) (sym (room .before .has-room .ensures) ∙ not-false _ (room .if2 .left)) _ (c .before .before .store-field .ensures)
+    field-put _ _ _ _ _ _ _ (fit .before .before .length-len .ensures .0) (room .before .before .head-len .ensures .0)
+    (sym (fit .before .fits2 .ensures) ∙ not-false _ (fit .if1 .left))
+    (sym (room .before .has-room .ensures) ∙ not-false _ (room .if2 .left)) _ (store-field .ensures)
 
 pub put-field-spec : {M : Type 1} → statement M
 put-field-spec =

@@ -26,7 +26,10 @@ array-share-prefix-bytes : tie.Need-array-share-prefix-bytes
 array-share-prefix-bytes c = search needs
 
 slice-aggregate-put-field : tie.Need-slice-aggregate-put-field
-slice-aggregate-put-field c = front-counted _ _ _ _ refl (c .before .before .before .before .before .before .before .if1 .left) (c .before .before .before .write-be .ensures)
+slice-aggregate-put-field c =
+    let if1 = c .before .before .before .before .before .before .before .if1 in
+    let write-be = c .before .before .before .write-be in
+    front-counted _ _ _ _ refl (if1 .left) (write-be .ensures)
 
 put-field-requires : tie.Need-put-field-requires
 put-field-requires c κs = search needs
@@ -36,8 +39,10 @@ same-length c = search needs
 
 returns-3 : tie.Need-returns-3
 returns-3 c =
+    let put-field = c .before .before .put-field in
     let stored = c .before .before .before .before .before .before in
-    number-put _ _ _ _ refl (stored .before .before .before .before .if1 .left) (stored .write-be .ensures) _ _ _ _ _ (sym (stored .before .before .before .fits2 .ensures) ∙ not-false _ (stored .before .before .if2 .left)) (c .before .before .put-field .ensures)
+    number-put _ _ _ _ refl (stored .before .before .before .before .if1 .left) (stored .write-be .ensures) _ _ _ _ _
+    (sym (stored .before .before .before .fits2 .ensures) ∙ not-false _ (stored .before .before .if2 .left)) (put-field .ensures)
 
 pub put-number-spec : {M : Type 1} → statement M
 put-number-spec =

@@ -31,9 +31,12 @@ same-length c = search needs
 
 returns : tie.Need-returns
 returns c =
+    let write-be2 = c .before .before .before .before .before .before .write-be2 in
+    let copy = c .before .before .copy in
     let first = c .before .before .before .before .before .before .before .before .before .before in
     let given = first .before .before .before .before .before .before in
-    field-stored _ _ _ _ _ _ _ _ _ _ (first .before .before .before .tag-len .ensures .0) (first .before .before .length-len .ensures .0) (search needs) (given .pre .0) (given .pre .1) (first .write-be .ensures) (c .before .before .before .before .before .before .write-be2 .ensures) (c .before .before .copy .ensures)
+    field-stored _ _ _ _ _ _ _ _ _ _ (first .before .before .before .tag-len .ensures .0) (first .before .before .length-len .ensures .0)
+    (search needs) (given .pre .0) (given .pre .1) (first .write-be .ensures) (write-be2 .ensures) (copy .ensures)
 
 pub store-field-spec : {M : Type 1} → statement M
 store-field-spec =

@@ -24,7 +24,11 @@ same-length : tie.Need-same-length
 same-length c = search needs
 
 returns-2 : tie.Need-returns-2
-returns-2 c = fault-stored _ _ (c .before .before .before .before .before .before .self .given .1) _ _ _ (c .before .before .before .before .before .before .before .before .before .pre .0) (c .before .before .before .before .before .before .before .before .before .pre .1) (c .before .before .put-number .ensures)
+returns-2 c =
+    let self = c .before .before .before .before .before .before .self in
+    let pre = c .before .before .before .before .before .before .before .before .before .pre in
+    let put-number = c .before .before .put-number in
+    fault-stored _ _ (self .given .1) _ _ _ (pre .0) (pre .1) (put-number .ensures)
 
 pub put-spec : {M : Type 1} → statement M
 put-spec =

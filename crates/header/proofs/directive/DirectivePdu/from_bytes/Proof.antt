@@ -20,7 +20,10 @@ header-len-requires : tie.Need-header-len-requires
 header-len-requires c κs = search needs
 
 shared-slice-read-code : tie.Need-shared-slice-read-code
-shared-slice-read-code c = code-lies 0 _ _ (ap directiveAnswer (sym (c .before .before .before .read2 .given .1)) ∙ c .before .before .before .before .before .up-to-code .ensures) _ (c .before .header-len .ensures .0)
+shared-slice-read-code c =
+    let read2 = c .before .before .before .read2 in
+    let up-to-code = c .before .before .before .before .before .up-to-code in
+    code-lies 0 _ _ (ap directiveAnswer (sym (read2 .given .1)) ∙ up-to-code .ensures) _ (c .before .header-len .ensures .0)
 
 from-code-requires : tie.Need-from-code-requires
 from-code-requires c κs = search needs
@@ -38,13 +41,31 @@ returns : tie.Need-returns
 returns c = no-pdu _ _ _ (ap directiveAnswer (sym (c .before .read .given .1)) ∙ c .before .before .before .up-to-code .ensures)
 
 returns-2 : tie.Need-returns-2
-returns-2 c = unknown-read _ _ _ (ap directiveAnswer (sym (c .before .before .before .before .before .before .read2 .given .1)) ∙ c .before .before .before .before .before .before .before .before .up-to-code .ensures) _ (c .before .before .before .before .header-len .ensures .0) (sym (c .enum-told .given .1) ∙ c .before .before .from-code .ensures)
+returns-2 c =
+    let read2 = c .before .before .before .before .before .before .read2 in
+    let up-to-code = c .before .before .before .before .before .before .before .before .up-to-code in
+    let header-len = c .before .before .before .before .header-len in
+    let from-code = c .before .before .from-code in
+    unknown-read _ _ _ (ap directiveAnswer (sym (read2 .given .1)) ∙ up-to-code .ensures) _ (header-len .ensures .0)
+    (sym (c .enum-told .given .1) ∙ from-code .ensures)
 
 returns-3 : tie.Need-returns-3
-returns-3 c = known-read _ _ _ (ap directiveAnswer (sym (c .before .before .before .before .before .before .read2 .given .1)) ∙ c .before .before .before .before .before .before .before .before .up-to-code .ensures) _ (c .before .before .before .before .header-len .ensures .0) (sym (c .enum-told2 .given .1) ∙ c .before .before .from-code .ensures)
+returns-3 c =
+    let read2 = c .before .before .before .before .before .before .read2 in
+    let up-to-code = c .before .before .before .before .before .before .before .before .up-to-code in
+    let header-len = c .before .before .before .before .header-len in
+    let from-code = c .before .before .from-code in
+    known-read _ _ _ (ap directiveAnswer (sym (read2 .given .1)) ∙ up-to-code .ensures) _ (header-len .ensures .0)
+    (sym (c .enum-told2 .given .1) ∙ from-code .ensures)
 
 returns-4 : tie.Need-returns-4
-returns-4 c = own-read _ _ _ (ap directiveAnswer (sym (c .before .before .before .before .before .before .read2 .given .1)) ∙ c .before .before .before .before .before .before .before .before .up-to-code .ensures) _ (c .before .before .before .before .header-len .ensures .0) (sym (c .enum-told3 .given .1) ∙ c .before .before .from-code .ensures)
+returns-4 c =
+    let read2 = c .before .before .before .before .before .before .read2 in
+    let up-to-code = c .before .before .before .before .before .before .before .before .up-to-code in
+    let header-len = c .before .before .before .before .header-len in
+    let from-code = c .before .before .from-code in
+    own-read _ _ _ (ap directiveAnswer (sym (read2 .given .1)) ∙ up-to-code .ensures) _ (header-len .ensures .0)
+    (sym (c .enum-told3 .given .1) ∙ from-code .ensures)
 
 pub from-bytes-spec : {M : Type 1} → statement M
 from-bytes-spec =

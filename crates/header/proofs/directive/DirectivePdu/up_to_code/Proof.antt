@@ -19,7 +19,11 @@ enum-known-length-2 : tie.Need-enum-known-length-2
 enum-known-length-2 c = search needs
 
 slice-aggregate-header-in : tie.Need-slice-aggregate-header-in
-slice-aggregate-header-in c = let m = rw (c .before .before .length2 .given .1) at (c .before .before .before .before .length-in .ensures) in sym (length-take-le _ _ (m .0))
+slice-aggregate-header-in c =
+    let length2 = c .before .before .length2 in
+    let length-in = c .before .before .before .before .length-in in
+    let m = rw (length2 .given .1) at (length-in .ensures) in
+    sym (length-take-le _ _ (m .0))
 
 header-in-requires : tie.Need-header-in-requires
 header-in-requires c κs = let m = rw (c .before .before .length2 .given .1) at (c .before .before .before .before .length-in .ensures) in m .1
@@ -37,10 +41,23 @@ returns : tie.Need-returns
 returns c = no-header _ _ (rw (c .before .length .given .1) at (c .before .before .before .length-in .ensures))
 
 returns-2 : tie.Need-returns-2
-returns-2 c = let m = rw (c .before .before .before .before .before .before .before .length2 .given .1) at (c .before .before .before .before .before .before .before .before .before .length-in .ensures) in not-verified _ _ (ap accepted (c .before .before .before .before .header-in .ensures) ∙ m .2) _ (ap lengthAnswer (sym (c .before .verified .given .1)) ∙ c .before .before .before .verify-directive .ensures)
+returns-2 c =
+    let length2 = c .before .before .before .before .before .before .before .length2 in
+    let length-in = c .before .before .before .before .before .before .before .before .before .length-in in
+    let header-in = c .before .before .before .before .header-in in
+    let verify-directive = c .before .before .before .verify-directive in
+    let m = rw (length2 .given .1) at (length-in .ensures) in
+    not-verified _ _ (ap accepted (header-in .ensures) ∙ m .2) _ (ap lengthAnswer (sym (c .before .verified .given .1)) ∙ verify-directive .ensures)
 
 returns-3 : tie.Need-returns-3
-returns-3 c = let m = rw (c .before .before .before .before .before .before .before .length2 .given .1) at (c .before .before .before .before .before .before .before .before .before .length-in .ensures) in directive-read _ _ (ap accepted (c .before .before .before .before .header-in .ensures) ∙ m .2) _ (ap lengthAnswer (sym (c .before .verified2 .given .1)) ∙ c .before .before .before .verify-directive .ensures)
+returns-3 c =
+    let length2 = c .before .before .before .before .before .before .before .length2 in
+    let length-in = c .before .before .before .before .before .before .before .before .before .length-in in
+    let header-in = c .before .before .before .before .header-in in
+    let verify-directive = c .before .before .before .verify-directive in
+    let m = rw (length2 .given .1) at (length-in .ensures) in
+    directive-read _ _ (ap accepted (header-in .ensures) ∙ m .2) _
+    (ap lengthAnswer (sym (c .before .verified2 .given .1)) ∙ verify-directive .ensures)
 
 pub up-to-code-spec : {M : Type 1} → statement M
 up-to-code-spec =

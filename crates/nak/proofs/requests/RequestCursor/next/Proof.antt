@@ -37,7 +37,9 @@ add-t9 : tie.Need-add-t9
 add-t9 c = search needs
 
 returns-3 : tie.Need-returns-3
-returns-3 c = next-pair _ _ _ _ _ _ (c .before .before .before .before .size-width .ensures .0) (omega arith) (c .before .offset-at .ensures) (c .offset-at2 .ensures)
+returns-3 c =
+    let size-width = c .before .before .before .before .size-width in
+    next-pair _ _ _ _ _ _ (size-width .ensures .0) (omega arith) (c .before .offset-at .ensures) (c .offset-at2 .ensures)
 
 pub next-spec : {M : Type 1} → statement M
 next-spec =

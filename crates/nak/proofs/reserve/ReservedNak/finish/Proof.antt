@@ -26,7 +26,15 @@ enum-known-begun-2 : tie.Need-enum-known-begun-2
 enum-known-begun-2 c = search needs
 
 put-scope-requires : tie.Need-put-scope-requires
-put-scope-requires c κs = finish-goes (c .before .before .before .before .before .before .before .before .before .before .before .before .before .args .self) (c .before .before .before .before .before .before .before .before .before .before .before .before .before .args .start) (c .before .before .before .before .before .before .before .before .before .before .before .before .before .args .end) (c .before .before .before .before .before .before .before .before .before .before .before .before .before .args .buf .now) _ (c .before .before .before .before .before .before .before .before .before .towards-sender .ensures) _ (c .before .before .before .before .before .before .before .before .before .before .finished-length .ensures) _ (c .before .before .before .before .before .before .before .before .with-data .ensures) _ _ (ap lengthAnswer (sym (c .before .before .begun2 .given .1)) ∙ c .before .before .before .before .before .before .begin-write .ensures .0) (c .before .before .before .before .before .before .begin-write .ensures .1)
+put-scope-requires c κs =
+    let a = c .before .before .before .before .before .before .before .before .before .before .before .before .before .args in
+    let towards-sender = c .before .before .before .before .before .before .before .before .before .towards-sender in
+    let finished-length = c .before .before .before .before .before .before .before .before .before .before .finished-length in
+    let with-data = c .before .before .before .before .before .before .before .before .with-data in
+    let begun2 = c .before .before .begun2 in
+    let begin-write = c .before .before .before .before .before .before .begin-write in
+    finish-goes (a .self) (a .start) (a .end) (a .buf .now) _ (towards-sender .ensures) _ (finished-length .ensures) _ (with-data .ensures) _ _
+    (ap lengthAnswer (sym (begun2 .given .1)) ∙ begin-write .ensures .0) (begin-write .ensures .1)
 
 seal-requires : tie.Need-seal-requires
 seal-requires c κs = search needs
@@ -35,13 +43,28 @@ same-length : tie.Need-same-length
 same-length c = search needs
 
 returns : tie.Need-returns
-returns c = not-finished _ _ _ _ _ (c .before .before .before .before .before .before .before .before .towards-sender .ensures) _ (c .before .before .before .before .before .before .before .before .before .finished-length .ensures) _ (c .before .before .before .before .before .before .before .with-data .ensures) _ _ (ap lengthAnswer (sym (c .before .begun .given .1)) ∙ c .before .before .before .before .before .begin-write .ensures .0) (c .before .before .before .before .before .begin-write .ensures .1)
+returns c =
+    let towards-sender = c .before .before .before .before .before .before .before .before .towards-sender in
+    let finished-length = c .before .before .before .before .before .before .before .before .before .finished-length in
+    let with-data = c .before .before .before .before .before .before .before .with-data in
+    let begin-write = c .before .before .before .before .before .begin-write in
+    not-finished _ _ _ _ _ (towards-sender .ensures) _ (finished-length .ensures) _ (with-data .ensures) _ _
+    (ap lengthAnswer (sym (c .before .begun .given .1)) ∙ begin-write .ensures .0) (begin-write .ensures .1)
 
 same-length-2 : tie.Need-same-length-2
 same-length-2 c = search needs
 
 returns-2 : tie.Need-returns-2
-returns-2 c = finished _ _ _ _ _ (c .before .before .before .before .before .before .before .before .before .before .before .before .before .before .before .before .towards-sender .ensures) _ (c .before .before .before .before .before .before .before .before .before .before .before .before .before .before .before .before .before .finished-length .ensures) _ (c .before .before .before .before .before .before .before .before .before .before .before .before .before .before .before .with-data .ensures) _ _ (ap lengthAnswer (sym (c .before .before .before .before .before .before .before .before .before .begun2 .given .1)) ∙ c .before .before .before .before .before .before .before .before .before .before .before .before .before .begin-write .ensures .0) (c .before .before .before .before .before .before .before .before .before .before .before .before .before .begin-write .ensures .1) _ _ (c .before .before .before .before .before .before .put-scope .ensures) (c .before .before .seal .ensures)
+returns-2 c =
+    let towards-sender = c .before .before .before .before .before .before .before .before .before .before .before .before .before .before .before .before .towards-sender in
+    let finished-length = c .before .before .before .before .before .before .before .before .before .before .before .before .before .before .before .before .before .finished-length in
+    let with-data = c .before .before .before .before .before .before .before .before .before .before .before .before .before .before .before .with-data in
+    let begun2 = c .before .before .before .before .before .before .before .before .before .begun2 in
+    let begin-write = c .before .before .before .before .before .before .before .before .before .before .before .before .before .begin-write in
+    let put-scope = c .before .before .before .before .before .before .put-scope in
+    let seal = c .before .before .seal in
+    finished _ _ _ _ _ (towards-sender .ensures) _ (finished-length .ensures) _ (with-data .ensures) _ _
+    (ap lengthAnswer (sym (begun2 .given .1)) ∙ begin-write .ensures .0) (begin-write .ensures .1) _ _ (put-scope .ensures) (seal .ensures)
 
 pub finish-spec : {M : Type 1} → statement M
 finish-spec =

@@ -29,10 +29,22 @@ place-requires : tie.Need-place-requires
 place-requires c κs = search needs
 
 returns : tie.Need-returns
-returns c = not-reserved _ _ _ _ (c .before .before .before .before .before .towards-sender .ensures) _ (c .before .before .before .before .before .before .pairs-length .ensures) _ (c .before .before .before .before .with-data .ensures) _ (ap lengthAnswer (sym (c .before .judged .given .1)) ∙ c .before .before .before .judge-write .ensures)
+returns c =
+    let towards-sender = c .before .before .before .before .before .towards-sender in
+    let pairs-length = c .before .before .before .before .before .before .pairs-length in
+    let with-data = c .before .before .before .before .with-data in
+    let judge-write = c .before .before .before .judge-write in
+    not-reserved _ _ _ _ (towards-sender .ensures) _ (pairs-length .ensures) _ (with-data .ensures) _
+    (ap lengthAnswer (sym (c .before .judged .given .1)) ∙ judge-write .ensures)
 
 returns-2 : tie.Need-returns-2
-returns-2 c = reserved-is _ _ _ _ (c .before .before .before .before .before .towards-sender .ensures) _ (c .before .before .before .before .before .before .pairs-length .ensures) _ (c .before .before .before .before .with-data .ensures) _ _ (ap lengthAnswer (sym (c .before .enum-told .given .1)) ∙ c .before .before .before .judge-write .ensures) (c .place .ensures)
+returns-2 c =
+    let towards-sender = c .before .before .before .before .before .towards-sender in
+    let pairs-length = c .before .before .before .before .before .before .pairs-length in
+    let with-data = c .before .before .before .before .with-data in
+    let judge-write = c .before .before .before .judge-write in
+    reserved-is _ _ _ _ (towards-sender .ensures) _ (pairs-length .ensures) _ (with-data .ensures) _ _
+    (ap lengthAnswer (sym (c .before .enum-told .given .1)) ∙ judge-write .ensures) (c .place .ensures)
 
 pub new-spec : {M : Type 1} → statement M
 new-spec =

@@ -24,10 +24,14 @@ element-write-state-4 : tie.Need-element-write-state-4
 element-write-state-4 c = search needs
 
 returns : tie.Need-returns
-returns c = put-none (c .before .before .args .self) 0 0 (c .before .before .args .state .now) (c .before .before .args .count) (c .enum-told .given .1)
+returns c =
+    let a = c .before .before .args in
+    put-none (a .self) 0 0 (a .state .now) (a .count) (c .enum-told .given .1)
 
 returns-2 : tie.Need-returns-2
-returns-2 c = put-some (c .before .before .before .args .self) 0 0 (c .before .before .before .args .state .now) (c .before .before .before .args .count) _ _ (c .before .self .given .1)
+returns-2 c =
+    let a = c .before .before .before .args in
+    put-some (a .self) 0 0 (a .state .now) (a .count) _ _ (c .before .self .given .1)
 
 pub put-spec : {M : Type 1} → statement M
 put-spec =

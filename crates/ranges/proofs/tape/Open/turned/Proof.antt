@@ -17,7 +17,10 @@ same-length : tie.Need-same-length
 same-length c = ap length (c .before .before .close .ensures .1) ∙ length-closed-into _ _ _ _
 
 returns-2 : tie.Need-returns-2
-returns-2 c = turned-other _ _ _ _ _ (c .before .before .before .before .if1 .left) _ _ (c .before .before .close .ensures .0) (c .before .before .close .ensures .1)
+returns-2 c =
+    let if1 = c .before .before .before .before .if1 in
+    let close = c .before .before .close in
+    turned-other _ _ _ _ _ (if1 .left) _ _ (close .ensures .0) (close .ensures .1)
 
 pub turned-spec : {M : Type 1} → statement M
 turned-spec = tie.close (tie.spec returns close-requires same-length returns-2)

@@ -22,7 +22,10 @@ returns-2 : tie.Need-returns-2
 returns-2 c = read-field _ _ _ _ (sym (c .before .field .given .1) ∙ c .before .before .before .field-in .ensures)
 
 returns-3 : tie.Need-returns-3
-returns-3 c = read-cut _ _ _ _ (c .before .before .before .before .if1 .left) (sym (c .before .place .given .1) ∙ c .before .before .before .field-in .ensures)
+returns-3 c =
+    let if1 = c .before .before .before .before .if1 in
+    let field-in = c .before .before .before .field-in in
+    read-cut _ _ _ _ (if1 .left) (sym (c .before .place .given .1) ∙ field-in .ensures)
 
 pub next-spec : {M : Type 1} → statement M
 next-spec =
