@@ -9,33 +9,20 @@
 
 What is owed is a set of bytes here, and its ranges are read off that set. So offsets of a log lie within some thousand bytes of each
 other: at 0, beside 2^32, or up to 2^64 - 1. A pair that a damaged log makes longer is cut down to the places where something changes.
-Reading is that of document02.py, and the checksum Python's own. The last line gives the figures; ends with 1 if anything differs.
+The last line gives the figures; ends with 1 if anything differs.
 """
-import collections
-import random
 import sys
 
-from document01 import checksum, number
-from document02 import Refused, directive, refuse_if
+from document01 import number
+from document02 import Refused, bytes_of, refuse_if
+from naks import check, listed, nak, read, rising
 
-NAK = 8
 HEARD, RESENT = 1, 2
 MOST_RANGES = 256
 MOST_BYTES = 20000
 
 
 # The model
-
-
-def read(b):
-    """Source, sequence number, and the pairs; or a refusal."""
-    h, stop, width, rec = directive(b, NAK)
-    behind = h + 1 + 2 * width
-    refuse_if(stop < behind, 6, stop, behind)
-    whole = (stop - behind) // (2 * width)
-    starts = [behind + 2 * width * i for i in range(whole)]
-    words = rec.split()
-    return (words[9], words[11]), [(number(b, at, width), number(b, at + width, width)) for at in starts]
 
 
 def refuse_disorder(pairs, at):
@@ -128,8 +115,9 @@ def steps(b):
     yield at, owed.ranges(), ()
 
 
-def answer(b):
-    *_, (at, ranges, refused) = steps(b)
+def answer(log):
+    """Of a command's word."""
+    *_, (at, ranges, refused) = steps(bytes_of(log))
     words = ["refused", *refused] if refused else ["ok"]
     return " ".join(map(str, [*words, "at", at, "ranges", *(n for pair in ranges for n in pair)]))
 
@@ -148,43 +136,12 @@ def entries(b):
 # The list
 
 
-def nak(chance, pairs, large, transaction):
-    """The NAK's bytes, its header and scope by chance."""
-    size = 8 if large else 4
-    width, sequence = chance.choice((1, 2, 4, 8)), chance.choice((1, 2, 4, 8))
-    crc = chance.randrange(2)
-    ids = transaction[0].to_bytes(width, "big") + transaction[1].to_bytes(sequence, "big") + chance.randbytes(width)
-    data = b"\x08" + chance.randbytes(2 * size) + b"".join(n.to_bytes(size, "big") for pair in pairs for n in pair)
-    data += chance.randbytes(chance.choice((0, 0, 0, 1, size, 2 * size - 1)))
-    flags = 0x20 | chance.randrange(4) << 2 | crc << 1 | large
-    widths = chance.randrange(2) << 7 | width - 1 << 4 | chance.randrange(2) << 3 | sequence - 1
-    pdu = bytes([flags]) + (len(data) + 2 * crc).to_bytes(2, "big") + bytes([widths]) + ids + data
-    return pdu + checksum(pdu).to_bytes(2, "big") if crc else pdu
-
-
 def field(tag, contents):
     return bytes([tag]) + len(contents).to_bytes(2, "big") + contents
 
 
 def resent(start, end):
     return field(RESENT, start.to_bytes(8, "big") + end.to_bytes(8, "big"))
-
-
-def rising(chance, base, span, most):
-    """Pairs in order within so many bytes from base on, often touching; at times one is damaged."""
-    pairs, at = [], base + chance.choice((0, 0, chance.randrange(span)))
-    for _ in range(chance.randrange(most + 1)):
-        at += chance.choice((0, 0, 1, 2, 5, 9))
-        end = at + chance.choice((1, 1, 2, 3, 7, 12))
-        if end > base + span:
-            break
-        pairs.append((at, end))
-        at = end
-    if pairs and chance.random() < 0.04:
-        i = chance.randrange(len(pairs))
-        start, end = pairs[i]
-        pairs[i] = chance.choice(((end, start), (start, start), (0, 0), (max(0, start - 3), end)))
-    return pairs
 
 
 def many(chance, base, count):
@@ -216,7 +173,8 @@ def ordinary(chance, base, large, transaction):
     entries = []
     for _ in range(chance.randrange(9)):
         if chance.random() < 0.55:
-            pairs = rising(chance, base, 300, chance.choice((1, 3, 8)))
+            most = chance.choice((1, 3, 8))
+            pairs = rising(chance, base + chance.choice((0, 0, chance.randrange(300))), base + 300, most, 0.04)
             if chance.random() < 0.15:
                 pairs = [(0, 0)] + pairs
             own = transaction if chance.random() < 0.97 else (transaction[0], (transaction[1] + 1) % 200)
@@ -304,35 +262,14 @@ def ended(said):
     return " ".join(words[: 2 if words[0] == "refused" else 1] + [str((len(words) - words.index("ranges")) // 2)])
 
 
-# The check
-
-
-def check(commands, answers):
-    checked, differ, given = 0, 0, collections.Counter()
-    for line, said in zip(open(commands), open(answers), strict=True):
-        words = line.split()
-        if not words or words[0] != "owed":
-            continue
-        wanted = answer(b"" if words[1] == "-" else bytes.fromhex(words[1]))
-        checked += 1
-        given[" ".join(wanted.split()[: 2 if wanted.startswith("refused") else 1])] += 1
-        given["with 256 ranges"] += len(wanted.split(" ranges ")[-1].split()) == 2 * MOST_RANGES
-        if said.strip() != wanted:
-            differ += 1
-            if differ <= 20:
-                print(f"{line.strip()}\nthe document: {wanted}\nthe port:     {said.strip()}")
-    for what, count in sorted(given.items()):
-        print(f"{what}: {count}")
-    print(f"{checked} checked, {differ} differ")
-    return 1 if differ or not checked else 0
+def full(wanted):
+    if len(wanted.split(" ranges ")[-1].split()) == 2 * MOST_RANGES:
+        yield "with 256 ranges"
 
 
 if __name__ == "__main__":
     if sys.argv[1:2] == ["list"]:
-        seed, count = map(int, sys.argv[2:])
-        source = random.Random(seed)
-        for _ in range(count):
-            print(command(source))
+        listed(command, *map(int, sys.argv[2:]))
     elif sys.argv[1:2] == ["limits"]:
         print(*(f"owed {log.hex()}" for log, _ in LIMITS), sep="\n")
     elif sys.argv[1:2] == ["wanted"]:
@@ -342,4 +279,4 @@ if __name__ == "__main__":
     elif sys.argv[1:2] == ["entries"]:
         print(*entries(sys.stdin.buffer.read()), sep="\n")
     else:
-        sys.exit(check(*sys.argv[2:]))
+        sys.exit(check("owed", answer, *sys.argv[2:], kinds=full))

@@ -1,12 +1,8 @@
 #!/bin/sh
-# Checks the port's driver and the comparer that ../build.sh built: the port gives the answers of
-# own.expected, port and Rust agree on document 01's cases, on the lines of silent.txt, on streams
-# that are cut and on the replay list, and the comparer counts each wrong answer that is put in on the way.
-# own.expected, port and Rust agree on document 01's cases, on the lines of silent.txt and on the
-# replay list, the comparer counts each wrong answer that is put in on the way, and plans of NAKs are
-# checked and made as document 02 says.
-# replay list, the comparer counts each wrong answer that is put in on the way, and the order of
-# refusals is that of docs/RULES.md.
+# Checks the port's driver and the comparer that ../build.sh built: the port gives the answers of own.expected; port and Rust agree on
+# document 01's cases, on the lines of silent.txt, on streams that are cut and on the replay list; the comparer counts each wrong answer
+# that is put in on the way; two NAKs compared, logs, and plans of NAKs are as document 02 says; and the order of refusals is that of
+# docs/RULES.md.
 # The last line is 'N passed, M failed'; ends with 1 if anything failed.
 set -eu
 . "$(dirname "$0")/expect.sh"
@@ -114,53 +110,49 @@ streamed "streams with a wrong answer" "$work/wrong" 1
 printf '#!/bin/sh\n"%s/port" | sed "7s/window [0-9]*/window 65536/"\n' "$bin" > "$work/wrong"
 streamed "streams with another window" "$work/wrong" 1
 
-# Two NAKs compared: by hand, and by chance against the document, byte by byte, written a second time.
-"$bin/port" < "$here/differ.txt" > "$work/seen"
-expect "differ.txt" "$here/differ.expected" "$work/seen"
-"$here/differ.py" list 1 100000 > "$work/asked"
-"$bin/port" < "$work/asked" > "$work/answers"
-"$here/differ.py" check "$work/asked" "$work/answers" | tail -n 1 > "$work/seen" || true
-echo "100000 checked, 0 differ" > "$work/expected"
-expect "differ.py, 100000 pairs of NAKs" "$work/expected" "$work/seen"
-# Another side in the first answer that has a range.
-sed '0,/,1,/s//,2,/' "$work/answers" > "$work/changed"
-"$here/differ.py" check "$work/asked" "$work/changed" | tail -n 1 > "$work/seen" || true
-echo "100000 checked, 1 differ" > "$work/expected"
-expect "differ.py with a wrong answer" "$work/expected" "$work/seen"
+# by_hand NAME: the port's answers to a list of commands, with those that were written by hand
+by_hand() {
+    "$bin/port" < "$here/$1.txt" > "$work/seen"
+    expect "$1.txt" "$here/$1.expected" "$work/seen"
+}
 
-# A log run: by hand, logs that come to 256 ranges, and by chance against the document, byte by byte, written a second time.
-"$bin/port" < "$here/owed.txt" > "$work/seen"
-expect "owed.txt" "$here/owed.expected" "$work/seen"
+# figures NAME MODEL ANSWERS EXPECTED: the last line of what a model says of answers to $work/asked, and how it ends
+figures() {
+    end=0
+    "$here/${2%% *}" "${2#* }" "$work/asked" "$3" > "$work/said" || end=$?
+    { tail -n 1 "$work/said"; echo "$end"; } > "$work/seen"
+    printf '%b' "$4" > "$work/expected"
+    expect "$1" "$work/expected" "$work/seen"
+}
+
+# modelled MODEL COUNT SED-SCRIPT: the answers to $work/asked against document 02 written a second time, and with one answer changed
+modelled() {
+    "$bin/port" < "$work/asked" > "$work/answers"
+    figures "${1%% *}" "$1" "$work/answers" "$2 checked, 0 differ\\n0\\n"
+    sed "$3" "$work/answers" > "$work/changed"
+    figures "${1%% *} with a wrong answer" "$1" "$work/changed" "$2 checked, 1 differ\\n1\\n"
+}
+
+# Two NAKs compared: another side in the first answer that has a range.
+by_hand differ
+"$here/differ.py" list 1 100000 > "$work/asked"
+modelled "differ.py check" 100000 '0,/,1,/s//,2,/'
+
+# A log run, and logs that come to 256 ranges: another offset in the first answer that is accepted.
+by_hand owed
 "$here/owed.py" limits | "$bin/port" | "$here/owed.py" ended > "$work/seen"
 "$here/owed.py" wanted > "$work/expected"
 expect "owed.py, 256 ranges" "$work/expected" "$work/seen"
 "$here/owed.py" list 1 100000 > "$work/asked"
-"$bin/port" < "$work/asked" > "$work/answers"
-"$here/owed.py" check "$work/asked" "$work/answers" | tail -n 1 > "$work/seen" || true
-echo "100000 checked, 0 differ" > "$work/expected"
-expect "owed.py, 100000 logs" "$work/expected" "$work/seen"
-# Another offset in the first answer that is accepted.
-sed '0,/^ok at [0-9]*/s//ok at 1/' "$work/answers" > "$work/changed"
-"$here/owed.py" check "$work/asked" "$work/changed" | tail -n 1 > "$work/seen" || true
-echo "100000 checked, 1 differ" > "$work/expected"
-expect "owed.py with a wrong answer" "$work/expected" "$work/seen"
+modelled "owed.py check" 100000 '0,/^ok at [0-9]*/s//ok at 1/'
 
-# Plans of NAKs (C-09), which the Rust lacks: cases by hand, and tasks and plans by chance against document 02, written a second time.
-"$bin/port" < "$here/plans.txt" > "$work/seen"
-expect "plans.txt" "$here/plans.expected" "$work/seen"
+# Plans of NAKs, which the Rust lacks: the first plan that is not accepted, taken for one that is.
+by_hand plans
 grep '^[cp]' "$here/plans.txt" | sed -n '1p;$p' | "$bin/oracle" > "$work/seen"
 printf '%s\n' "bad the Rust has no such command" "bad 1048577 lent numbers" > "$work/expected"
 expect "plans asked of the Rust" "$work/expected" "$work/seen"
 "$here/plans.py" make 1 120000 > "$work/asked"
-"$bin/port" < "$work/asked" > "$work/answers"
-"$here/plans.py" judge "$work/asked" "$work/answers" > "$work/seen" || true
-echo "120237 checked, 0 differ" > "$work/expected"
-expect "plans.py" "$work/expected" "$work/seen"
-# The first plan that is not accepted, taken for one that is.
-sed '0,/ok not accepted/s//ok accepted/' "$work/answers" > "$work/changed"
-"$here/plans.py" judge "$work/asked" "$work/changed" | tail -n 1 > "$work/seen" || true
-echo "120237 checked, 1 differ" > "$work/expected"
-expect "plans.py with a wrong answer" "$work/expected" "$work/seen"
+modelled "plans.py judge" 120237 '0,/ok not accepted/s//ok accepted/'
 
 # page NAME EXPECTED PAGE: whether the order of refusals on that page for users is the port's
 page() {
