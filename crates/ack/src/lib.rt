@@ -1,4 +1,6 @@
 // Layer 3 of the codec: the ACK PDU (the Rust's `cfdp/pdu/ack.rs`), of an EOF or a Finished, read and written.
+#![tactic(auto)]
+
 use fields::Refusal;
 use header::PduHeader;
 use status::TransactionStatus;

@@ -1,5 +1,7 @@
 // Runs every published checksum vector that we know, document 01's cases, and cases of the rules of documents 01 and 02.
 // Each is printed with where it comes from and what it gives.
+#![tactic(auto)]
+
 use ack::Ack;
 use ack::status::TransactionStatus;
 use eof::Eof;

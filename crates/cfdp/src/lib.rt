@@ -1,5 +1,7 @@
 // The library for C and Rust: each exported function takes numbers and slices, calls the codec, and writes its answer as
 // numbers. Every value of every parameter has its answer. `include/cfdp.h` declares them all.
+#![tactic(auto)]
+
 ghost use Rattle.std.specs.Prelude.{◌≡◌, [], ◌∷◌, ◌++◌, ◌<◌};
 ghost use Rattle.header.specs.Answers.{length_answer};
 ghost use Rattle.header.specs.Pdu.{write_answer};

@@ -1,4 +1,6 @@
 // Layer 3 of the codec: the EOF PDU (the Rust's `cfdp/pdu/eof.rs`), read and written.
+#![tactic(auto)]
+
 use fault::FaultLocation;
 use fields::Refusal;
 use header::PduHeader;

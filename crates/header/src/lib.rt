@@ -1,4 +1,6 @@
 // Layer 2 of the codec: the common PDU header (the Rust's `cfdp/pdu/mod.rs`): its record, read, judged, written, verified and compared; and what every directive PDU shares.
+#![tactic(auto)]
+
 ghost use Rattle.std.specs.Prelude.{◌≡◌, ◌≤◌};
 ghost use Rattle.header.specs.Header.{header_length, pdu_length, data_end, source_id, dest_id, with_direction, with_file_flag, with_length};
 

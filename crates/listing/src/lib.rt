@@ -1,5 +1,7 @@
 // Prints a NAK, an EOF, an ACK or a Metadata PDU, or why it is refused: of a NAK in document 01's words.
 // What is printed is tested and not proved.
+#![tactic(auto)]
+
 ghost use Rattle.std.specs.Prelude.{◌≡◌};
 ghost use Rattle.fields.specs.Refusal.{numbers_of};
 ghost use Rattle.fields.specs.Staged.{run};

@@ -1,4 +1,6 @@
 // Layer 3 of the codec: the Metadata PDU (the Rust's `cfdp/pdu/metadata.rs`), read, its options walked, and written.
+#![tactic(auto)]
+
 ghost use Rattle.std.specs.Prelude.{◌≡◌};
 ghost use Rattle.fields.specs.Answer.{all_of};
 ghost use Rattle.header.specs.Answers.{judged_answer};

@@ -1,4 +1,6 @@
 // Layer 3 of the codec: the NAK PDU (the Rust's `cfdp/pdu/nak.rs`): read, its requests walked, written, reserved and finished, counted, compared.
+#![tactic(auto)]
+
 ghost use Rattle.std.specs.Prelude.{◌≡◌, ◌+◌, ◌≤◌, length};
 ghost use Rattle.fields.specs.BigEndian.{number_at};
 ghost use Rattle.header.specs.Size.{size_width};

@@ -1,5 +1,7 @@
 // Prints which bytes only one of the NAKs in two files asks for, or why they are refused. Of each file it reads at most the first 8,192 bytes.
 // What is printed is tested and not proved.
+#![tactic(auto)]
+
 use libc::{STDERR_FILENO, STDOUT_FILENO};
 use ranges::differ;
 use ranges::differ::{DifferResult, Differences};

@@ -1,4 +1,6 @@
 // Prints the NAK on standard input, of which it reads at most the first 32,768 bytes, or why it is refused.
+#![tactic(auto)]
+
 use libc::STDIN_FILENO;
 
 fn main() {

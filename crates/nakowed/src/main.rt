@@ -1,5 +1,7 @@
 // Prints what is owed after each entry of the log on standard input, which may have any length: it is read entry by entry.
 // What is printed is tested and not proved.
+#![tactic(auto)]
+
 ghost use Rattle.std.specs.Prelude.{◌≤◌, ◌<◌, length};
 
 use fields::Refusal;

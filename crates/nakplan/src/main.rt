@@ -1,4 +1,6 @@
 // Plans NAKs for the task on standard input, or checks the plan that is given with it. What it prints is tested and not proved.
+#![tactic(auto)]
+
 use task::{Reading, STORE_LEN};
 use words::MOST_NUMBERS;
 

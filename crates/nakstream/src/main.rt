@@ -1,4 +1,6 @@
 // Prints each NAK of a stream on standard input, as it comes; a refusal is the last line.
+#![tactic(auto)]
+
 use libc::STDIN_FILENO;
 use receiver::Outcome;
 

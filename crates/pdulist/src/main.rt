@@ -1,5 +1,7 @@
 // Prints the directive PDU on standard input, a NAK, an EOF, an ACK or a Metadata PDU, of which it reads at most the first 65,563 bytes, or why it
 // is refused.
+#![tactic(auto)]
+
 use libc::STDIN_FILENO;
 
 // The most bytes of a PDU: a header of 28, and 65,535 of data.

@@ -1,4 +1,6 @@
 // A receiver of NAKs from a link that hands over fragments of a stream (document 02, C-07).
+#![tactic(auto)]
+
 ghost use Rattle.std.specs.Prelude.{◌≡◌, ◌+◌, ◌≤◌, min, length, take};
 ghost use Rattle.std.proofs.lemmas.List.Edits.{sets};
 ghost use Rattle.fields.specs.Answer.{told};

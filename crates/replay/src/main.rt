@@ -1,4 +1,6 @@
 // Calls the library for each record of the replay list on standard input, and counts those whose answer it does not give.
+#![tactic(auto)]
+
 ghost use Rattle.std.specs.Prelude.{◌≤◌};
 
 use libc::STDOUT_FILENO;

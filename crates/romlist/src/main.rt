@@ -1,5 +1,7 @@
 // Prints the checksum's table as a ROM listing: 16 rows of 16 entries, in order, four hexadecimal digits each. What it must print, the
 // file `stdout`, is from Python's `binascii.crc_hqx`, by the command in docs/DECISIONS.md, 'The checksum'.
+#![tactic(auto)]
+
 use libc::STDOUT_FILENO;
 
 fn digit(n: u16) -> u8 {

@@ -1,5 +1,7 @@
 // Fields that say their own length: length and value (the names of a Metadata PDU), type, length and value (its options, an EOF's fault
 // location), and the same with a length of two bytes (the entries of a log). Read, walked and written, once for all forms.
+#![tactic(auto)]
+
 ghost use Rattle.std.specs.Prelude.{◌≡◌, ◌≤◌};
 ghost use Rattle.tlv.specs.Form.{tag_bytes, length_bytes, head_bytes};
 
