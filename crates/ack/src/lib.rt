@@ -16,7 +16,7 @@ pub const ACK_CODE: u8 = 6;
 pub const ACK_SIZE: usize = 3;
 
 // An ACK: one that was read, or is to be written. The Rust's names stand beside those that differ.
-#[derive(Drop)]
+#[derive(Clone, Copy)]
 pub struct Ack {
     pub header: PduHeader,
     // directive_code_of_acked_pdu
@@ -28,7 +28,7 @@ pub struct Ack {
 }
 
 // An ACK, or why there is none.
-#[derive(Drop)]
+#[derive(Clone, Copy)]
 pub enum AckResult {
     Ack(Ack),
     Refused(Refusal),

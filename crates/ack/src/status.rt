@@ -2,7 +2,7 @@
 ghost use Rattle.std.specs.Prelude.{◌≡◌, ◌≤◌};
 ghost use Rattle.ack.specs.Ack.{status_bits, status_of};
 
-#[derive(Drop)]
+#[derive(Clone, Copy)]
 pub enum TransactionStatus {
     Undefined,
     Active,

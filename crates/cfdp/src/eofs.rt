@@ -13,7 +13,7 @@ use eof::{Eof, EofResult};
 use fields::EntityId;
 
 // A fault location as numbers: 1 where there is one, its width and its value; else zeros.
-#[derive(Drop)]
+#[derive(Clone, Copy)]
 struct FaultNumbers {
     there: u64,
     width: u64,

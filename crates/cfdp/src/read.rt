@@ -24,7 +24,7 @@ pub extern "C" fn cfdp_nak_read(bytes: &[u8], answer: &mut Answer)
 }
 
 // A pair of an area: whether there is one, its start and its end.
-#[derive(Drop)]
+#[derive(Clone, Copy)]
 struct Found {
     there: bool,
     start: u64,

@@ -18,20 +18,20 @@ const ENTITY_ID: u8 = 6;
 const HEAD_LEN: usize = 2;
 
 // An entity identifier, with the width that its field has.
-#[derive(Drop)]
+#[derive(Clone, Copy)]
 pub struct EntityIdTlv {
     pub width: u8,
     pub id: EntityId,
 }
 
-#[derive(Drop)]
+#[derive(Clone, Copy)]
 pub enum FaultLocation {
     At(EntityIdTlv),
     Nowhere,
 }
 
 // A fault location, or why the bytes are none.
-#[derive(Drop)]
+#[derive(Clone, Copy)]
 pub enum FaultResult {
     Fault(FaultLocation),
     Refused(Refusal),

@@ -16,7 +16,7 @@ pub const EOF_CODE: u8 = 4;
 pub const SIZE_AT: usize = 6;
 
 // An EOF: one that was read, or is to be written. The Rust's names stand beside those that differ.
-#[derive(Drop)]
+#[derive(Clone, Copy)]
 pub struct Eof {
     pub header: PduHeader,
     // condition_code
@@ -30,7 +30,7 @@ pub struct Eof {
 }
 
 // An EOF, or why there is none.
-#[derive(Drop)]
+#[derive(Clone, Copy)]
 pub enum EofResult {
     Eof(Eof),
     Refused(Refusal),

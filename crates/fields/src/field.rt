@@ -2,18 +2,18 @@
 ghost use Rattle.std.specs.Prelude.{◌≡◌, eqb};
 ghost use Rattle.fields.specs.Width.{is_width, fits_field, same_value};
 
-#[derive(Drop)]
+#[derive(Clone, Copy)]
 pub struct UnsignedByteField {
     pub width: u8,
     pub value: u64,
 }
 
 // The identifier of an entity, source or destination. A header keeps one width for both.
-#[derive(Drop)]
+#[derive(Clone, Copy)]
 pub struct EntityId(pub u64);
 
 // The sequence number of a transaction. It is another type than an identifier, so that neither is taken for the other.
-#[derive(Drop)]
+#[derive(Clone, Copy)]
 pub struct TransactionSeqNum(pub UnsignedByteField);
 
 // Whether a width is one that the port, like the Rust, has: at most 8, and exactly one bit of it is set.

@@ -3,7 +3,7 @@ ghost use Rattle.std.specs.Prelude.{◌≡◌};
 ghost use Rattle.fields.specs.Refusal.{numbers_of};
 
 // Names are the Rust's, where the Rust has one; the names of 6, 10, 12, 18 to 28 and 30 to 32 are the port's own.
-#[derive(Drop)]
+#[derive(Clone, Copy)]
 pub enum Refusal {
     // 1: buffer short.
     FromSliceTooSmall { found: usize, expected: usize },
@@ -75,7 +75,7 @@ pub enum Refusal {
 
 // A refusal as document 01 prints it: its number, how many values it returns, and these; a value that it does not
 // return is 0.
-#[derive(Drop)]
+#[derive(Clone, Copy)]
 pub struct RefusalNumbers {
     pub number: u8,
     pub count: u8,

@@ -3,7 +3,7 @@ ghost use Rattle.std.specs.Prelude.{◌≡◌};
 ghost use Rattle.header.specs.Code.{kind_of};
 
 // What a directive code says to a reader.
-#[derive(Drop)]
+#[derive(Clone, Copy)]
 pub enum DirectiveKind {
     // The directive that it reads.
     Own,

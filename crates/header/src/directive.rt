@@ -15,14 +15,14 @@ use fields::Refusal;
 const LEAST_LEN: usize = 9;
 
 // A directive PDU: its header, and E, where its data ends. The data begins behind the header, with the directive's code.
-#[derive(Drop)]
+#[derive(Clone, Copy)]
 pub struct DirectivePdu {
     pub header: PduHeader,
     pub stop: usize,
 }
 
 // A directive PDU, or why there is none.
-#[derive(Drop)]
+#[derive(Clone, Copy)]
 pub enum DirectiveResult {
     Directive(DirectivePdu),
     Refused(Refusal),

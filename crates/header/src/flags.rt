@@ -6,49 +6,49 @@ ghost use Rattle.header.specs.Flags.{pdu_type_bit, pdu_type_if, direction_bit, d
 pub const CFDP_VERSION_2: u8 = 1;
 
 // PDU type: a file directive or file data.
-#[derive(Drop)]
+#[derive(Clone, Copy)]
 pub enum PduType {
     FileDirective,
     FileData,
 }
 
 // Which way the PDU goes.
-#[derive(Drop)]
+#[derive(Clone, Copy)]
 pub enum Direction {
     TowardsReceiver,
     TowardsSender,
 }
 
 // Transmission mode.
-#[derive(Drop)]
+#[derive(Clone, Copy)]
 pub enum TransmissionMode {
     Acknowledged,
     Unacknowledged,
 }
 
 // Whether the PDU ends in a checksum.
-#[derive(Drop)]
+#[derive(Clone, Copy)]
 pub enum CrcFlag {
     NoCrc,
     WithCrc,
 }
 
 // Whether offsets have 4 bytes or 8.
-#[derive(Drop)]
+#[derive(Clone, Copy)]
 pub enum LargeFileFlag {
     Normal,
     Large,
 }
 
 // Whether record boundaries are kept.
-#[derive(Drop)]
+#[derive(Clone, Copy)]
 pub enum SegmentationControl {
     NoRecordBoundaryPreservation,
     WithRecordBoundaryPreservation,
 }
 
 // Whether segment metadata is there.
-#[derive(Drop)]
+#[derive(Clone, Copy)]
 pub enum SegmentMetadataFlag {
     NotPresent,
     Present,

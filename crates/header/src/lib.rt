@@ -32,7 +32,7 @@ pub const CRC_LEN: usize = 2;
 // All fields of a header. The Rust's names stand beside those that differ. Their order is that in memory, where a record shares its place
 // with a refusal (`HeaderResult`): the numbers of one lie over those of the other, and the flags behind them, so that a record is handed
 // on field by field and not in pieces that a read has to wait for.
-#[derive(Drop)]
+#[derive(Clone, Copy)]
 pub struct PduHeader {
     // pdu_type
     pub kind: PduType,
@@ -60,21 +60,21 @@ pub struct PduHeader {
 }
 
 // A header, or why there is none.
-#[derive(Drop)]
+#[derive(Clone, Copy)]
 pub enum HeaderResult {
     Header(PduHeader),
     Refused(Refusal),
 }
 
 // A length in bytes, or why there is none.
-#[derive(Drop)]
+#[derive(Clone, Copy)]
 pub enum LengthResult {
     Length(usize),
     Refused(Refusal),
 }
 
 // What a judgement says that hands back nothing: that its tests were passed, or which was not.
-#[derive(Drop)]
+#[derive(Clone, Copy)]
 pub enum Judged {
     Passed,
     Refused(Refusal),

@@ -8,21 +8,21 @@ use crate::{HeaderResult, Judged, LengthResult, PduHeader, verify};
 use fields::Refusal;
 
 // What the tests of a PDU's own say: d, the length of its data field, or why there is none.
-#[derive(Drop)]
+#[derive(Clone, Copy)]
 pub enum DataLength {
     Length(u16),
     Refused(Refusal),
 }
 
 // The header as it was written, its length filled in, and how many bytes were written.
-#[derive(Drop)]
+#[derive(Clone, Copy)]
 pub struct PduWritten {
     pub header: PduHeader,
     pub length: usize,
 }
 
 // A PDU that was written, or why it was not.
-#[derive(Drop)]
+#[derive(Clone, Copy)]
 pub enum WriteResult {
     Written(PduWritten),
     Refused(Refusal),

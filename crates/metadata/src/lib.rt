@@ -20,14 +20,14 @@ pub const METADATA_CODE: u8 = 7;
 pub const SIZE_AT: usize = 2;
 
 // A part of the bytes that a PDU was read from: the bytes from `start` up to `stop`.
-#[derive(Drop)]
+#[derive(Clone, Copy)]
 pub struct Part {
     pub start: usize,
     pub stop: usize,
 }
 
 // All but names and options (the Rust's `MetadataGenericParams`, and the header).
-#[derive(Drop)]
+#[derive(Clone, Copy)]
 pub struct MetadataParams {
     pub header: PduHeader,
     // closure_requested
@@ -39,7 +39,7 @@ pub struct MetadataParams {
 }
 
 // A Metadata PDU that was read. Names and options stand in the bytes that it was read from.
-#[derive(Drop)]
+#[derive(Clone, Copy)]
 pub struct Metadata {
     pub params: MetadataParams,
     // src_file_name
@@ -51,7 +51,7 @@ pub struct Metadata {
 }
 
 // A Metadata PDU, or why there is none.
-#[derive(Drop)]
+#[derive(Clone, Copy)]
 pub enum MetadataResult {
     Metadata(Metadata),
     Refused(Refusal),

@@ -15,7 +15,7 @@ use tlv::walk::{FirstCut, first_cut};
 use tlv::{Field, Form};
 
 // Where the names lie, and where the options begin.
-#[derive(Drop)]
+#[derive(Clone, Copy)]
 pub struct Names {
     pub source: Part,
     pub destination: Part,
@@ -23,7 +23,7 @@ pub struct Names {
 }
 
 // Names and options, or that one of them runs past the end.
-#[derive(Drop)]
+#[derive(Clone, Copy)]
 pub enum NamesResult {
     Names(Names),
     Refused(Refusal),

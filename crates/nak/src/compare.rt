@@ -10,7 +10,7 @@ use header::pdu::DataLength;
 use header::{Judged, LargeFileFlag, PduHeader};
 
 // Whether the buffer holds that NAK, or why that cannot be told.
-#[derive(Drop)]
+#[derive(Clone, Copy)]
 pub enum CompareResult {
     Equal,
     Different,

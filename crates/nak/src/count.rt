@@ -8,7 +8,7 @@ use header::size::size_width;
 use header::{CRC_LEN, Judged, PduHeader};
 
 // A count of requests, or why there is none.
-#[derive(Drop)]
+#[derive(Clone, Copy)]
 pub enum CountResult {
     Count(usize),
     Refused(Refusal),

@@ -18,7 +18,7 @@ pub mod reserve;
 pub mod write;
 
 // A NAK that was read: its header, its scope, and where its requests lie in the bytes that it was read from.
-#[derive(Drop)]
+#[derive(Clone, Copy)]
 pub struct Nak {
     pub header: PduHeader,
     // start_of_scope
@@ -33,7 +33,7 @@ pub struct Nak {
 }
 
 // A NAK, or why there is none.
-#[derive(Drop)]
+#[derive(Clone, Copy)]
 pub enum NakResult {
     Nak(Nak),
     Refused(Refusal),

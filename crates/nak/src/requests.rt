@@ -7,13 +7,13 @@ use header::LargeFileFlag;
 use header::size::size_width;
 
 // A position in a request area.
-#[derive(Drop)]
+#[derive(Clone, Copy)]
 pub struct RequestCursor {
     pub at: usize,
 }
 
 // What stands at a cursor: a whole pair and the cursor behind it, or no whole pair any more.
-#[derive(Drop)]
+#[derive(Clone, Copy)]
 pub enum NextRequest {
     Pair {
         start: u64,
@@ -24,7 +24,7 @@ pub enum NextRequest {
 }
 
 // Where the requests of a NAK are walked from, if its area is not empty.
-#[derive(Drop)]
+#[derive(Clone, Copy)]
 pub enum RequestsStart {
     From(RequestCursor),
     Nothing,

@@ -11,7 +11,7 @@ use header::pdu::{DataLength, PduWritten, WriteResult};
 use header::{CrcFlag, Judged, LargeFileFlag, LengthResult, PduHeader};
 
 // The header that was reserved for, the pairs, and where their bytes start and stop in the buffer.
-#[derive(Drop)]
+#[derive(Clone, Copy)]
 pub struct ReservedNak {
     pub header: PduHeader,
     pub count: usize,
@@ -20,7 +20,7 @@ pub struct ReservedNak {
 }
 
 // A reserved NAK, or why there is none.
-#[derive(Drop)]
+#[derive(Clone, Copy)]
 pub enum ReserveResult {
     Reserved(ReservedNak),
     Refused(Refusal),

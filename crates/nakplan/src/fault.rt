@@ -1,7 +1,7 @@
 // What is wrong with a line, in words.
 use libc::STDOUT_FILENO;
 
-#[derive(Drop)]
+#[derive(Clone, Copy)]
 pub enum Fault {
     TooLong,
     NoSuchWord,

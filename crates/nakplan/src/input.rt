@@ -2,20 +2,20 @@
 use libc::STDIN_FILENO;
 
 // The byte of the chunk that is next, and how many it has.
-#[derive(Drop)]
+#[derive(Clone, Copy)]
 pub struct Place {
     pub at: usize,
     pub have: usize,
 }
 
-#[derive(Drop)]
+#[derive(Clone, Copy)]
 enum Next {
     Byte { byte: u8, place: Place },
     End,
 }
 
 // What the next line is, and where the one behind it begins.
-#[derive(Drop)]
+#[derive(Clone, Copy)]
 pub enum Line {
     Whole(Place),
     TooLong,

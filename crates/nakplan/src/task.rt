@@ -10,7 +10,7 @@ pub const MOST_RANGES: usize = 8190;
 pub const MOST_NAKS: usize = 1024;
 
 // What was read. Received ranges, requests and NAKs stand in lent numbers, of which so many are theirs.
-#[derive(Drop)]
+#[derive(Clone, Copy)]
 pub struct Task {
     pub header: bool,
     pub packet: bool,
@@ -34,13 +34,13 @@ pub const NAKS: usize = 2 * REQUESTS;
 pub const STORE_LEN: usize = NAKS + 3 * MOST_NAKS;
 
 // The task behind a line, or what is wrong with the line.
-#[derive(Drop)]
+#[derive(Clone, Copy)]
 pub enum Taken {
     Task(Task),
     Wrong(Fault),
 }
 
-#[derive(Drop)]
+#[derive(Clone, Copy)]
 pub enum Reading {
     Whole(Task),
     Wrong { line: u64, fault: Fault },
@@ -240,7 +240,7 @@ fn take(
 }
 
 // What the next line says, and where the one behind it begins.
-#[derive(Drop)]
+#[derive(Clone, Copy)]
 enum Next {
     Said { kind: Kind, place: Place },
     Wrong(Fault),
@@ -327,7 +327,7 @@ fn nothing_read() -> Task {
 }
 
 // What a line leaves: the task so far and where the next line begins, or the end of reading.
-#[derive(Drop)]
+#[derive(Clone, Copy)]
 enum Step {
     More { place: Place, task: Task },
     Done(Reading),

@@ -4,7 +4,7 @@ use crate::fault::Fault;
 // The most numbers of a line: those of a header.
 pub const MOST_NUMBERS: usize = 14;
 
-#[derive(Drop)]
+#[derive(Clone, Copy)]
 pub enum Kind {
     Nothing,
     Header,
@@ -18,14 +18,14 @@ pub enum Kind {
 }
 
 // A number, and where its word ends.
-#[derive(Drop)]
+#[derive(Clone, Copy)]
 enum Number {
     Value { value: u64, next: usize },
     Wrong,
 }
 
 // How many numbers there are, or what is wrong with them.
-#[derive(Drop)]
+#[derive(Clone, Copy)]
 pub enum Numbers {
     Count(usize),
     Wrong(Fault),

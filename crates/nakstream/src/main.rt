@@ -5,7 +5,7 @@ use libc::STDIN_FILENO;
 use receiver::Outcome;
 
 // How many bytes of the next PDU are in the window, and whether the stream goes on.
-#[derive(Drop)]
+#[derive(Clone, Copy)]
 struct Left {
     filled: usize,
     on: bool,

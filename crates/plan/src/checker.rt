@@ -11,7 +11,7 @@ use header::PduHeader;
 use nak::count::CountResult;
 
 // Whether the plan is accepted, or why that is not asked.
-#[derive(Drop)]
+#[derive(Clone, Copy)]
 pub enum Checked {
     Verdict(bool),
     Refused(Refusal),

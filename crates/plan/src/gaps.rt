@@ -7,7 +7,7 @@ ghost use Rattle.plan.specs.Plans.{pair_numbers};
 ghost use Rattle.plan.specs.Gaps.{gaps, gap_then, same_pairs};
 
 // A gap, empty where there is no more; and from where to look for the next: the byte, and the number among those of the received ranges.
-#[derive(Drop)]
+#[derive(Clone, Copy)]
 pub struct Gap {
     pub from: u64,
     pub to: u64,

@@ -10,7 +10,7 @@ use header::PduHeader;
 use nak::count::CountResult;
 
 // How many requests and NAKs were stored, or why there is no plan.
-#[derive(Drop)]
+#[derive(Clone, Copy)]
 pub enum Planned {
     Plan { requests: usize, naks: usize },
     Refused(Refusal),

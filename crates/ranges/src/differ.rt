@@ -15,7 +15,7 @@ use header::LargeFileFlag;
 use nak::{Nak, NakResult};
 
 // What two NAKs differ in: which of them ask for metadata, and how many ranges only one of them asks for.
-#[derive(Drop)]
+#[derive(Clone, Copy)]
 pub struct Differences {
     pub first: bool,
     pub second: bool,
@@ -23,7 +23,7 @@ pub struct Differences {
 }
 
 // The differences, or why there are none to tell.
-#[derive(Drop)]
+#[derive(Clone, Copy)]
 pub enum DifferResult {
     Found(Differences),
     Refused(Refusal),

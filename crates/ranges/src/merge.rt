@@ -10,7 +10,7 @@ use crate::side::Source;
 use crate::tape::Open;
 
 // What is asked of two lists: the bytes that only one asks for, by side; those that either asks for; those of the first that the second does not ask for.
-#[derive(Drop)]
+#[derive(Clone, Copy)]
 pub enum Rule {
     Differ,
     Either,

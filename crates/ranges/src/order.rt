@@ -14,14 +14,14 @@ const FIRST_PAIR: usize = 1;
 const SECOND_PAIR: usize = 2;
 
 // Where the pairs behind the metadata pair begin, and the number of the first of them.
-#[derive(Drop)]
+#[derive(Clone, Copy)]
 pub struct Begin {
     pub at: usize,
     pub number: usize,
 }
 
 // What a request area asks for: whether for metadata; where the other pairs begin; and the number of the first of them out of order, 0 where all rise.
-#[derive(Drop)]
+#[derive(Clone, Copy)]
 pub struct Asked {
     pub metadata: bool,
     pub start: usize,

@@ -45,21 +45,21 @@ const RESENT_TAG: u8 = 2;
 const RESENT_LEN: usize = 16;
 
 // The log's first NAK, once one was taken.
-#[derive(Drop)]
+#[derive(Clone, Copy)]
 pub enum FirstNak {
     Nak { source: u64, sequence: u64 },
     Nothing,
 }
 
 // How many bytes the entry has that was taken, or why it was refused.
-#[derive(Drop)]
+#[derive(Clone, Copy)]
 pub enum EntryResult {
     Taken(usize),
     Refused(Refusal),
 }
 
 // Where the log's end is, or why an entry was refused, and where that entry is.
-#[derive(Drop)]
+#[derive(Clone, Copy)]
 pub enum RunResult {
     End(usize),
     Refused { refusal: Refusal, at: usize },

@@ -11,14 +11,14 @@ use nak::requests::{NextRequest, RequestCursor};
 pub const LARGEST: u64 = 18446744073709551615;
 
 // Where a list of pairs stands. There are two slices for each side, and the other one is not looked at.
-#[derive(Drop)]
+#[derive(Clone, Copy)]
 pub enum Source {
     Area(LargeFileFlag),
     Numbers,
 }
 
 // A pair, and where the pairs behind it stand. Behind the last pair both numbers are LARGEST.
-#[derive(Drop)]
+#[derive(Clone, Copy)]
 pub struct Side {
     pub from: u64,
     pub to: u64,

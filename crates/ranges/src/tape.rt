@@ -6,7 +6,7 @@ ghost use Rattle.ranges.specs.Laying.{wide};
 ghost use Rattle.ranges.specs.Within.{placed, closing, closed_into, turned_open, turned_into};
 
 // The range that is open: its first byte and its label, which is 0 where none is open; and how many ranges were closed before it.
-#[derive(Drop)]
+#[derive(Clone, Copy)]
 pub struct Open {
     pub from: u64,
     pub label: u64,

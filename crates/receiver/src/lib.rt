@@ -17,14 +17,14 @@ pub const WINDOW_LEN: usize = 2048;
 
 // The state: a window, and how many bytes of the next PDU are in it. What is waited for, and what is refused, those bytes say; so every
 // value of both is a state that a call answers.
-#[derive(Drop)]
+#[derive(Clone, Copy)]
 pub struct Receiver {
     pub window: [u8; 2048],
     pub filled: usize,
 }
 
 // What a call gives. A NAK's bytes stand in the window until the next call, and its requests are walked there.
-#[derive(Drop)]
+#[derive(Clone, Copy)]
 pub enum Outcome {
     More,
     Nak(Nak),
@@ -32,7 +32,7 @@ pub enum Outcome {
 }
 
 // How many bytes a call took, what it gives, and how many bytes of the next PDU are then in the window.
-#[derive(Drop)]
+#[derive(Clone, Copy)]
 pub struct Received {
     pub taken: usize,
     pub outcome: Outcome,
@@ -40,7 +40,7 @@ pub struct Received {
 }
 
 // The same by value: with the state that is left.
-#[derive(Drop)]
+#[derive(Clone, Copy)]
 pub struct Taken {
     pub taken: usize,
     pub outcome: Outcome,
@@ -48,14 +48,14 @@ pub struct Taken {
 }
 
 // What a call gives, and how many of its readings were short.
-#[derive(Drop)]
+#[derive(Clone, Copy)]
 struct Counted {
     received: Received,
     shorts: usize,
 }
 
 // What the bytes in the window say.
-#[derive(Drop)]
+#[derive(Clone, Copy)]
 enum Status {
     Wants { found: usize, need: usize },
     Whole(Nak),

@@ -10,7 +10,7 @@ pub mod walk;
 pub mod write;
 
 // What stands before a value.
-#[derive(Drop)]
+#[derive(Clone, Copy)]
 pub enum Form {
     // A length byte: the standard's LV, the Rust's `Lv`.
     Lv,
@@ -21,7 +21,7 @@ pub enum Form {
 }
 
 // A field that was read: its type, 0 where the form has none, and where its value starts and stops. The next field begins at `stop`.
-#[derive(Drop)]
+#[derive(Clone, Copy)]
 pub struct Field {
     pub tag: u8,
     pub start: usize,

@@ -8,14 +8,14 @@ use crate::{Field, Form};
 use fields::be;
 
 // The field at a place, or that its head or its value runs past the end, with the place of its first byte.
-#[derive(Drop)]
+#[derive(Clone, Copy)]
 pub enum FieldResult {
     Field(Field),
     Cut(usize),
 }
 
 // The one field that takes all bytes up to the end, or that they are something else.
-#[derive(Drop)]
+#[derive(Clone, Copy)]
 pub enum OnlyField {
     Only(Field),
     Other,

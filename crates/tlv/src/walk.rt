@@ -5,13 +5,13 @@ ghost use Rattle.tlv.specs.Walking.{next_field, first_cut};
 use crate::{Field, Form, read};
 
 // A position in an area.
-#[derive(Drop)]
+#[derive(Clone, Copy)]
 pub struct FieldCursor {
     pub at: usize,
 }
 
 // What stands at a cursor: a field and the cursor behind it, nothing any more, or a field that is cut, with the place of its first byte.
-#[derive(Drop)]
+#[derive(Clone, Copy)]
 pub enum NextField {
     Field { field: Field, next: FieldCursor },
     End,
@@ -19,7 +19,7 @@ pub enum NextField {
 }
 
 // Where the first field lies that is cut, if there is one.
-#[derive(Drop)]
+#[derive(Clone, Copy)]
 pub enum FirstCut {
     At(usize),
     Nothing,
