@@ -1,0 +1,7 @@
+-- `header::PduHeader::seal` meets its contract: the checksum goes where the data ends.
+use Rattle.header.proofs.Pdus.{sealed_is}
+use borrow.Author.Rules.{rules}
+use Rattle.header.proofs.PduHeader.seal.Goals as goal
+
+pub returns : goal.returns
+returns c = sealed_is _ _ _ _ c.data_end.ensures c.add_pdu_crc.ensures

@@ -1,0 +1,16 @@
+-- `tlv::write::copy` meets its contract. The loop's invariant: storing the bytes that are left gives what is to be stored.
+use Prim.Native.Nat.{◌+◌, ◌-◌, ◌≤◌}
+use mathlib.Core.Path.{◌≡◌, refl}
+use native.Mathlib.Nat.{add-zero}
+use native.Mathlib.Omega.{arith}
+use lib.ListN.{length, drop, length-set}
+use lib.Seq.{sets}
+use borrow.Author.Rules.{rules}
+use Rattle.tlv.proofs.Writing.{byte_turn, bytes_done}
+use Rattle.tlv.proofs.write.copy.Given as goal
+
+abbrev pub invariant-loop-i : goal.invariant-loop-i
+invariant-loop-i l = (l.i ≤ length l.bytes) × (length l.buf ≡ length l.initial.buf) × (sets l.buf (l.at + l.i) (drop l.i l.bytes) ≡ sets l.initial.buf l.at l.bytes)
+
+abbrev pub decreases-loop-i : goal.decreases-loop-i
+decreases-loop-i l = length l.bytes - l.i
