@@ -11,10 +11,13 @@ put_header-requires c =
     storable _ _ _ _ (ap length_answer (sym c.in-Length.is) ∙ judge-write.ensures)
 
 pub returns-in-Refused : goal.returns-in-Refused
-returns-in-Refused c = nothing_begun _ _ _ _ (ap length_answer (sym c.in-Refused.is) ∙ c.judge_write-answer.ensures)
+returns-in-Refused c =
+    let both = nothing_begun _ _ _ _ (ap length_answer (sym c.in-Refused.is) ∙ c.judge_write-answer.ensures) in
+    record { answered = both.0; stored = both.1 }
 
 pub returns-in-Length : goal.returns-in-Length
 returns-in-Length c =
     let judge-write = c.judge_write-answer in
     let put-header = c.put_header in
-    header_begun _ _ _ _ _ (ap length_answer (sym c.in-Length.is) ∙ judge-write.ensures) put-header.ensures
+    let both = header_begun _ _ _ _ _ (ap length_answer (sym c.in-Length.is) ∙ judge-write.ensures) put-header.ensures in
+    record { answered = both.0; stored = both.1 }

@@ -6,9 +6,9 @@ use borrow.Author.Rules.{rules}
 use Rattle.header.proofs.PduHeader.new_generic.Goals as goal
 
 pub returns-in-Refused : goal.returns-in-Refused
-returns-in-Refused c = refused_building _ _ _ _ (ap header_answer (sym c.in-Refused.is) ∙ c.from_Fields.ensures)
+returns-in-Refused c = refused_building _ _ _ _ (ap header_answer (sym c.in-Refused.is) ∙ c.from_fields-joined.ensures)
 
 pub returns-in-Header : goal.returns-in-Header
 returns-in-Header c =
-    let from_Fields = c.from_Fields in
-    c.judged.ensures ∙ joined_building _ _ _ _ (ap header_answer (sym c.in-Header.is) ∙ from_Fields.ensures)
+    let from_fields = c.from_fields-joined in
+    c.judged.ensures ∙ joined_building _ _ _ _ (ap header_answer (sym c.in-Header.is) ∙ from_fields.ensures)

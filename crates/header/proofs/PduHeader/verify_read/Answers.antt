@@ -26,10 +26,10 @@ pub returns-then-checksum-ne0 : goal.returns-then-checksum-ne0
 returns-then-checksum-ne0 c =
     let pdu-len = c.pdu_len-len in
     let checksum = c.checksum in
-    bad_checksum _ _ _ pdu-len.ensures.0 c.if-buf-len.false c.enum_told-in_default-1.given.1 _ checksum.ensures _ c.if-checksum-ne0.true
+    bad_checksum _ _ _ pdu-len.ensures.0 c.if-buf-len.false c.in_default.is _ checksum.ensures _ c.if-checksum-ne0.true
     c.read_be.ensures.0
 
 pub returns : goal.returns
 returns c =
     let pdu-len = c.pdu_len-len in
-    good_checksum _ _ _ pdu-len.ensures.0 c.if-buf-len.false c.enum_told-in_default-1.given.1 _ c.checksum.ensures c.if-checksum-ne0.false
+    good_checksum _ _ _ pdu-len.ensures.0 c.if-buf-len.false c.in_default.is _ c.checksum.ensures c.if-checksum-ne0.false

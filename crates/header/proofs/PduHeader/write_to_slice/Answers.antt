@@ -12,10 +12,13 @@ put_header-requires c =
     (sound _ (written_passed _ _ _ e), written_room _ _ _ e)
 
 pub returns-in-Refused : goal.returns-in-Refused
-returns-in-Refused c = refused_write _ _ _ (ap length_answer (sym c.in-Refused.is) ∙ c.writable-answer.ensures)
+returns-in-Refused c =
+    let both = refused_write _ _ _ (ap length_answer (sym c.in-Refused.is) ∙ c.writable-answer.ensures) in
+    record { answered = both.0; stored = both.1 }
 
 pub returns-in-Length : goal.returns-in-Length
 returns-in-Length c =
     let writable = c.writable-answer in
     let put-header = c.put_header in
-    accepted_write _ _ _ _ (ap length_answer (sym c.in-Length.is) ∙ writable.ensures) put-header.ensures
+    let both = accepted_write _ _ _ _ (ap length_answer (sym c.in-Length.is) ∙ writable.ensures) put-header.ensures in
+    record { answered = both.0; stored = both.1 }

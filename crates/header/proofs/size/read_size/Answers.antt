@@ -19,6 +19,12 @@ overflow_add-at c =
     omega
     (arith, size_inside a.file Normal c.in-Normal.is a.s.now a.at 4 refl (omega arith) (sym c.lies_in.ensures ∙ c.if-not-lies_in.false))
 
+pub slice_bounds-read_be-end : goal.slice_bounds-read_be-end
+slice_bounds-read_be-end c =
+    let a = c.args in
+    omega
+    (arith, size_inside a.file Normal c.in-Normal.is a.s.now a.at 4 refl (omega arith) (sym c.lies_in.ensures ∙ c.if-not-lies_in.false))
+
 pub returns-then-not-lies_in-2 : goal.returns-then-not-lies_in-2
 returns-then-not-lies_in-2 c =
     let a = c.args in
@@ -27,6 +33,12 @@ returns-then-not-lies_in-2 c =
 
 pub overflow_add-at-in-Large : goal.overflow_add-at-in-Large
 overflow_add-at-in-Large c =
+    let a = c.args in
+    omega
+    (arith, size_inside a.file Large c.in-Large.is a.s.now a.at 8 refl (omega arith) (sym c.lies_in-in-Large.ensures ∙ c.if-not-lies_in-2.false))
+
+pub slice_bounds-read_be-end-in-Large : goal.slice_bounds-read_be-end-in-Large
+slice_bounds-read_be-end-in-Large c =
     let a = c.args in
     omega
     (arith, size_inside a.file Large c.in-Large.is a.s.now a.at 8 refl (omega arith) (sym c.lies_in-in-Large.ensures ∙ c.if-not-lies_in-2.false))

@@ -21,4 +21,4 @@ pub returns : goal.returns
 returns c =
     let checksum = c.checksum-sum in
     let write-be = c.write_be in
-    with_crc _ _ _ _ _ c.enum_told-in_default-1.given.1 checksum.ensures write-be.ensures
+    with_crc _ _ _ _ _ c.in_default.is checksum.ensures write-be.ensures

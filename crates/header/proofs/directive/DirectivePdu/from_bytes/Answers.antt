@@ -8,7 +8,7 @@ use Rattle.header.proofs.directive.DirectivePdu.from_bytes.Goals as goal
 pub bounds-buf-at : goal.bounds-buf-at
 bounds-buf-at c =
     let up-to-code = c.up_to_code-read in
-    code_lies 0 _ _ (ap directive_answer (sym c.read-in-Directive-1.given.1) ∙ up-to-code.ensures) _ c.header_len-at.ensures.0
+    code_lies 0 _ _ (ap directive_answer (sym c.in-Directive.is) ∙ up-to-code.ensures) _ c.header_len-at.ensures.0
 
 pub returns-in-Refused : goal.returns-in-Refused
 returns-in-Refused c = no_pdu _ _ _ (ap directive_answer (sym c.in-Refused.is) ∙ c.up_to_code-read.ensures)
@@ -18,7 +18,7 @@ returns-in-Unknown c =
     let up-to-code = c.up_to_code-read in
     let header-len = c.header_len-at in
     let from-code = c.from_code-kind in
-    unknown_read _ _ _ (ap directive_answer (sym c.read-in-Directive-1.given.1) ∙ up-to-code.ensures) _ header-len.ensures.0
+    unknown_read _ _ _ (ap directive_answer (sym c.in-Directive.is) ∙ up-to-code.ensures) _ header-len.ensures.0
     (sym c.in-Unknown.is ∙ from-code.ensures)
 
 pub returns-in-Known : goal.returns-in-Known
@@ -26,7 +26,7 @@ returns-in-Known c =
     let up-to-code = c.up_to_code-read in
     let header-len = c.header_len-at in
     let from-code = c.from_code-kind in
-    known_read _ _ _ (ap directive_answer (sym c.read-in-Directive-1.given.1) ∙ up-to-code.ensures) _ header-len.ensures.0
+    known_read _ _ _ (ap directive_answer (sym c.in-Directive.is) ∙ up-to-code.ensures) _ header-len.ensures.0
     (sym c.in-Known.is ∙ from-code.ensures)
 
 pub returns-in-Own : goal.returns-in-Own
@@ -34,5 +34,5 @@ returns-in-Own c =
     let up-to-code = c.up_to_code-read in
     let header-len = c.header_len-at in
     let from-code = c.from_code-kind in
-    own_read _ _ _ (ap directive_answer (sym c.read-in-Directive-1.given.1) ∙ up-to-code.ensures) _ header-len.ensures.0
+    own_read _ _ _ (ap directive_answer (sym c.in-Directive.is) ∙ up-to-code.ensures) _ header-len.ensures.0
     (sym c.in-Own.is ∙ from-code.ensures)
