@@ -1,0 +1,55 @@
+-- `ack::Ack::write_to_slice` meets its contract: a refusal that changes nothing, or header, data and checksum.
+use mathlib.Core.Path.{sym, ap, ◌∙◌}
+use native.Mathlib.Omega.{arith}
+use Rattle.header.specs.Header.{with_direction}
+use Rattle.header.specs.Answers.{length_answer}
+use Rattle.header.proofs.Pdus.{write_refused, begun_passed, data_goes, write_done}
+use Rattle.ack.specs.Writing.{ack_data, filled, own_tests, writing_ack, ack_memory}
+use Rattle.ack.proofs.Data.{data_size, length_is}
+use borrow.Author.Rules.{rules}
+use Rattle.ack.proofs.Ack.write_to_slice.Goals as goal
+
+pub put_data-requires : goal.put_data-requires
+put_data-requires c =
+    let with-direction = c.with_direction-header in
+    let a = c.args in
+    let direction-for = c.direction_for in
+    let data_length_lem = c.data_length-own in
+    let with-data = c.with_data-header in
+    let begin-write = c.begin_write-begun in (
+      omega
+          (arith, data_goes _ _ (with-direction.ensures ∙ ap (λ d. with_direction d a.self.header) direction-for.ensures) (own_tests a.self) _ _ data_length_lem.ensures _ with-data.ensures _ _ _ (ap length_answer (sym c.in-Length.is) ∙ begin-write.ensures.answered) begin-write.ensures.stored (ack_data a.self) (length_is a.self) _ c.header_len.ensures.0, data_size a.self),
+      begun_passed _ _ (with-direction.ensures ∙ ap (λ d. with_direction d a.self.header) direction-for.ensures) (own_tests a.self) _ _
+          data_length_lem.ensures _ with-data.ensures _ _ (ap length_answer (sym c.in-Length.is) ∙ begin-write.ensures.answered),
+    )
+
+pub returns-in-Refused : goal.returns-in-Refused
+unfolding writing_ack ack_memory filled
+returns-in-Refused c =
+    let with-direction = c.with_direction-header in
+    let a = c.args in
+    let direction-for = c.direction_for in
+    let data_length_lem = c.data_length-own in
+    let with-data = c.with_data-header in
+    let begin-write = c.begin_write-begun in
+    let both = write_refused _ _ (with-direction.ensures ∙ ap (λ d. with_direction d a.self.header) direction-for.ensures) (own_tests a.self) _ _
+    data_length_lem.ensures _ with-data.ensures _ (ack_data a.self) _ _
+    (ap length_answer (sym c.in-Refused.is) ∙ begin-write.ensures.answered) begin-write.ensures.stored in
+    record { answered = both.0; stored = both.1 }
+
+pub returns-in-Length : goal.returns-in-Length
+unfolding writing_ack ack_memory filled
+returns-in-Length c =
+    let with-direction = c.with_direction-header in
+    let a = c.args in
+    let direction-for = c.direction_for in
+    let data_length_lem = c.data_length-own in
+    let with-data = c.with_data-header in
+    let begin-write = c.begin_write-begun in
+    let header-len = c.header_len in
+    let put-data = c.put_data in
+    let seal = c.seal in
+    let both = write_done _ _ (with-direction.ensures ∙ ap (λ d. with_direction d a.self.header) direction-for.ensures) (own_tests a.self) _ _
+    data_length_lem.ensures _ with-data.ensures _ _ _ (ap length_answer (sym c.in-Length.is) ∙ begin-write.ensures.answered)
+    begin-write.ensures.stored (ack_data a.self) (length_is a.self) _ header-len.ensures.0 _ _ put-data.ensures seal.ensures in
+    record { answered = both.0; stored = both.1 }
