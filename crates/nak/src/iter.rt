@@ -7,7 +7,7 @@ use crate::Nak;
 use crate::requests::{NextRequest, RequestCursor};
 use header::LargeFileFlag;
 
-#[derive(Drop)]
+#[derive(Clone, Copy)]
 pub struct SegmentRequestIter<'a> {
     // current_idx
     pub cursor: RequestCursor,

@@ -7,7 +7,7 @@ pub returns-then-stop-area : goal.returns-then-stop-area
 returns-then-stop-area c = backwards _ _ c.if-stop-area.true
 
 pub returns-then-buf-stop : goal.returns-then-buf-stop
-returns-then-buf-stop c = beyond _ _ c.if-stop-area.false c.if-stop-area.true
+returns-then-buf-stop c = beyond _ _ c.if-stop-area.false c.if-buf-stop.true
 
 pub returns : goal.returns
 returns c = within _ _ c.if-stop-area.false c.if-buf-stop.false
