@@ -1,0 +1,63 @@
+-- `ranges::merge::merge` meets its contract: storing and counting what is left from here gives all, at each place where a side changes.
+use Prim.Native.Nat.{◌-◌}
+use mathlib.Core.Path.{ap, ◌∙◌}
+use native.Mathlib.Omega.{arith}
+use lib.ListN.{length}
+use Rattle.ranges.specs.Merging.{largest}
+use Rattle.ranges.specs.Within.{pairs_in}
+use Rattle.ranges.proofs.Laying.{length_closed_into}
+use Rattle.ranges.proofs.Merging.{Walk, walk_start, to_ahead, to_inside, walk_turn, walk_end}
+use borrow.Author.Rules.{rules}
+use Rattle.ranges.proofs.merge.merge.Goals as goal
+
+pub loop-at-init : goal.loop-at-init
+loop-at-init c =
+    let pre = c.requires in
+    walk_start _ _ _ _ _ _ _ _ _ _ _ pre.0 pre.1 c.side_at-first.ensures c.side_at-second.ensures
+
+pub turned-open-requires : goal.turned-open-requires
+turned-open-requires c =
+    let l = c.loop-at in
+    omega (arith, l.invariant.few, l.invariant.inside)
+
+pub loop-at-smaller : goal.loop-at-smaller
+loop-at-smaller c =
+    let l = c.loop-at in
+    let loop-test = c.loop-at-test in
+    let edge = c.edge in
+    let edge2 = c.edge-in-loop-at in
+    let lesser = c.lesser-to in
+    omega
+    (arith, to_ahead _ _ _ _ _ _ _ _ _ _ _ _ _ _ l.invariant loop-test.true _ _ _ edge.ensures.0 edge.ensures.1 edge2.ensures.0 edge2.ensures.1 lesser.ensures, to_inside _ _ _ _ _ _ _ _ _ _ _ _ _ _ l.invariant loop-test.true _ _ _ edge.ensures.0 edge.ensures.1 edge2.ensures.0 edge2.ensures.1 lesser.ensures)
+
+pub loop-at-preserved : goal.loop-at-preserved
+loop-at-preserved c =
+    let l = c.loop-at in
+    let loop-test = c.loop-at-test in
+    let edge = c.edge in
+    let edge2 = c.edge-in-loop-at in
+    let lesser = c.lesser-to in
+    let label_of = c.label_of-label in
+    let asks = c.asks in
+    let asks2 = c.asks-in-loop-at in
+    let turned = c.turned-open in
+    walk_turn _ _ _ _ _ _ _ _ _ _ _ _ _ _ l.invariant loop-test.true _ _ _ edge.ensures.0 edge.ensures.1 edge2.ensures.0
+    edge2.ensures.1 lesser.ensures _ _ _ _ _ _ _ _ _ _ _ label_of.ensures asks.ensures asks2.ensures turned.ensures.0
+    turned.ensures.1 c.passed-first.ensures c.passed-second.ensures
+
+pub close-requires : goal.close-requires
+close-requires c = omega (arith, c.loop-at.invariant.few, c.loop-at.invariant.inside)
+
+pub shape_of-out : goal.shape_of-out
+shape_of-out c =
+    let close = c.close in
+    let l = c.loop-at in
+    ap length close.ensures.1 ∙ length_closed_into _ _ _ _ ∙ l.invariant.kept
+
+pub returns : goal.returns
+returns c =
+    let l = c.loop-at in
+    let loop-test = c.loop-at-test in
+    let close = c.close in
+    let both = walk_end _ _ _ _ _ _ _ _ _ _ _ _ _ _ l.invariant loop-test.false _ _ close.ensures.0 close.ensures.1 in
+    record { answered = both.0; stored = both.1 }

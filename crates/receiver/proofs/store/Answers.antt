@@ -1,0 +1,21 @@
+-- `receiver::store` meets its contract. The loop's invariant: storing the bytes that are left gives what is to be stored.
+use Prim.Native.Nat.{◌+◌, ◌-◌, ◌≤◌}
+use mathlib.Core.Path.{◌≡◌, refl, ap, ◌∙◌}
+use native.Mathlib.Nat.{add-zero}
+use native.Mathlib.Omega.{arith}
+use lib.ListN.{length, drop, length-set}
+use lib.Seq.{sets}
+use Rattle.receiver.proofs.Storing.{byte_turn, bytes_done}
+use borrow.Author.Rules.{rules}
+use Rattle.receiver.proofs.store.Goals as goal
+
+pub loop-i-init : goal.loop-i-init
+loop-i-init c = (search rules, refl, rw add-zero)
+
+pub loop-i-preserved : goal.loop-i-preserved
+loop-i-preserved c =
+    let l = c.loop-i in
+    (search rules, simp length-set l.invariant.1, byte_turn _ _ _ _ l.i (search rules) l.invariant.2)
+
+pub returns : goal.returns
+returns c = bytes_done _ _ _ c.loop-i.i _ (omega arith) c.loop-i.invariant.2

@@ -1,0 +1,16 @@
+-- `receiver::store` meets its contract. The loop's invariant: storing the bytes that are left gives what is to be stored.
+use Prim.Native.Nat.{◌+◌, ◌-◌, ◌≤◌}
+use mathlib.Core.Path.{◌≡◌, refl, ap, ◌∙◌}
+use native.Mathlib.Nat.{add-zero}
+use native.Mathlib.Omega.{arith}
+use lib.ListN.{length, drop, length-set}
+use lib.Seq.{sets}
+use Rattle.receiver.proofs.Storing.{byte_turn, bytes_done}
+use borrow.Author.Rules.{rules}
+use Rattle.receiver.proofs.store.Given as goal
+
+abbrev pub invariant-loop-i : goal.invariant-loop-i
+invariant-loop-i l = (l.i ≤ length l.bytes) × (length l.window ≡ length l.initial.window) × (sets l.window (l.at + l.i) (drop l.i l.bytes) ≡ sets l.initial.window l.at l.bytes)
+
+abbrev pub decreases-loop-i : goal.decreases-loop-i
+decreases-loop-i l = length l.bytes - l.i
