@@ -12,13 +12,15 @@ use header::{
     CrcFlag, Direction, LargeFileFlag, PduHeader, PduType, SegmentMetadataFlag,
     SegmentationControl, TransmissionMode,
 };
-use libc::STDOUT_FILENO;
 use nak::compare::CompareResult;
 use nak::count::CountResult;
 use nak::reserve::{ReserveResult, ReservedNak};
 use nak::{compare, count, write};
 
 mod pdus;
+
+// The descriptor of standard output.
+const STDOUT_FILENO: i32 = 1;
 
 // N's pair, 100 and 200, as the caller of a reserved NAK stores it.
 const PAIR: u64 = 0x64000000C8;

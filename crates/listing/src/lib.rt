@@ -10,7 +10,6 @@ ghost use Rattle.listing.specs.Listing.{is_accepted};
 
 use fields::Refusal;
 use header::PduHeader;
-use libc::STDOUT_FILENO;
 use nak::requests::{NextRequest, RequestCursor};
 use nak::{Nak, NakResult};
 
@@ -18,6 +17,9 @@ pub mod acks;
 pub mod eofs;
 pub mod metadatas;
 pub mod pdus;
+
+// The descriptor of standard output.
+const STDOUT_FILENO: i32 = 1;
 
 // A word, up to two numbers, and the end of the line.
 fn print_line(word: &[u8], count: u8, first: u64, second: u64) {

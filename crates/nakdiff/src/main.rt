@@ -2,9 +2,14 @@
 // What is printed is tested and not proved.
 #![tactic(auto)]
 
-use libc::{STDERR_FILENO, STDOUT_FILENO};
 use ranges::differ;
 use ranges::differ::{DifferResult, Differences};
+
+// The descriptor of standard output.
+const STDOUT_FILENO: i32 = 1;
+
+// The descriptor of standard error.
+const STDERR_FILENO: i32 = 2;
 
 // Three numbers for each request that two files can have: of 8,192 bytes a header takes 7 at least, the code 1 and the scope 8, so that 1,022 pairs of
 // 8 bytes are left. With so much room a comparison is never refused for want of it.

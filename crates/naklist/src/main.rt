@@ -1,7 +1,9 @@
 // Prints the NAK on standard input, of which it reads at most the first 32,768 bytes, or why it is refused.
 #![tactic(auto)]
 
-use libc::STDIN_FILENO;
+
+// The descriptor of standard input.
+const STDIN_FILENO: i32 = 0;
 
 fn main() {
     let mut buffer = [0u8; 32768];

@@ -5,9 +5,14 @@
 ghost use Rattle.std.specs.Prelude.{◌≤◌, ◌<◌, length};
 
 use fields::Refusal;
-use libc::{STDIN_FILENO, STDOUT_FILENO};
 use ranges::owed;
 use ranges::owed::{EntryResult, State};
+
+// The descriptor of standard input.
+const STDIN_FILENO: i32 = 0;
+
+// The descriptor of standard output.
+const STDOUT_FILENO: i32 = 1;
 
 // Tag and length, and the longest entry.
 const HEAD_LEN: usize = 3;

@@ -9,7 +9,7 @@ use header::{
     CrcFlag, Direction, HeaderResult, LargeFileFlag, PduHeader, PduType, SegmentMetadataFlag,
     SegmentationControl, TransmissionMode,
 };
-use libc::STDOUT_FILENO;
+use crate::STDOUT_FILENO;
 use plan::checker::Checked;
 use plan::planner::Planned;
 use plan::{checker, planner};

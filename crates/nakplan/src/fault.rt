@@ -1,5 +1,5 @@
 // What is wrong with a line, in words.
-use libc::STDOUT_FILENO;
+use crate::STDOUT_FILENO;
 
 #[derive(Clone, Copy)]
 pub enum Fault {

@@ -1,5 +1,5 @@
 // Standard input, a line at a time, by way of a chunk that is filled anew where it is used up.
-use libc::STDIN_FILENO;
+use crate::STDIN_FILENO;
 
 // The byte of the chunk that is next, and how many it has.
 #[derive(Clone, Copy)]

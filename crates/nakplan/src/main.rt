@@ -10,6 +10,12 @@ mod input;
 mod task;
 mod words;
 
+// The descriptor of standard input.
+const STDIN_FILENO: i32 = 0;
+
+// The descriptor of standard output.
+const STDOUT_FILENO: i32 = 1;
+
 fn main() {
     let mut chunk = [0u8; 4096];
     let mut header = [0u64; MOST_NUMBERS];

@@ -1,8 +1,10 @@
 // Prints each NAK of a stream on standard input, as it comes; a refusal is the last line.
 #![tactic(auto)]
 
-use libc::STDIN_FILENO;
 use receiver::Outcome;
+
+// The descriptor of standard input.
+const STDIN_FILENO: i32 = 0;
 
 // How many bytes of the next PDU are in the window, and whether the stream goes on.
 #[derive(Clone, Copy)]

@@ -2,9 +2,11 @@
 // is refused.
 #![tactic(auto)]
 
-use libc::STDIN_FILENO;
 
 // The most bytes of a PDU: a header of 28, and 65,535 of data.
+// The descriptor of standard input.
+const STDIN_FILENO: i32 = 0;
+
 const MOST_PDU: usize = 65563;
 
 fn main() {

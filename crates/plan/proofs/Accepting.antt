@@ -85,7 +85,7 @@ module _ (most : ℕ) (received : List (ℕ × ℕ)) (start end : ℕ) (p : Plan
 
   pub all_clauses : Clauses most received start end p → accepts most received start end p ≡ true
   unfolding accepts
-  all_clauses c = rw (c.fit, c.apart-are, c.within, c.exact, c.join)
+  all_clauses c = rw (c.fit, c.apart_are, c.within, c.exact, c.join)
 
 -- and in numbers
 module _ (most : ℕ) (received : List ℕ) (start end : ℕ) (requests naks : List ℕ) where

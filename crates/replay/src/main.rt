@@ -3,7 +3,6 @@
 
 ghost use Rattle.std.specs.Prelude.{◌≤◌};
 
-use libc::STDOUT_FILENO;
 
 mod directives;
 mod expected;
@@ -11,6 +10,12 @@ mod headers;
 mod list;
 mod metadatas;
 mod naks;
+
+// The descriptor of standard input.
+const STDIN_FILENO: i32 = 0;
+
+// The descriptor of standard output.
+const STDOUT_FILENO: i32 = 1;
 
 // The codes and the list's form stand in oracle/README.md.
 const MOST_CODE: u8 = 21;

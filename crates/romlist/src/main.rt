@@ -2,7 +2,9 @@
 // file `stdout`, is from Python's `binascii.crc_hqx`, by the command in docs/DECISIONS.md, 'The checksum'.
 #![tactic(auto)]
 
-use libc::STDOUT_FILENO;
+
+// The descriptor of standard output.
+const STDOUT_FILENO: i32 = 1;
 
 fn digit(n: u16) -> u8 {
     let d = (n % 16) as u8;

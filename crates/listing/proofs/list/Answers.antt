@@ -1,0 +1,16 @@
+-- `listing::list` meets its contract: it says whether the reading was accepted.
+use mathlib.Core.Path.{refl, sym, ap, ◌∙◌}
+use mathlib.Core.Bool.{false}
+use Rattle.fields.proofs.Judging.{told_either}
+use Rattle.nak.specs.Reading.{nak_answer}
+use Rattle.listing.specs.Listing.{is_accepted}
+use borrow.Author.Rules.{rules}
+use Rattle.listing.proofs.list.Goals as goal
+
+pub returns-in-Refused : goal.returns-in-Refused
+returns-in-Refused c =
+    let from_bytes = c.from_bytes-read in
+    sym (told_either is_accepted false _ (λ _ _. refl) (λ _. refl)) ∙ ap is_accepted (ap nak_answer (sym c.in-Refused.is) ∙ from_bytes.ensures)
+
+pub returns-in-Nak : goal.returns-in-Nak
+returns-in-Nak c = ap is_accepted (ap nak_answer (sym c.in-Nak.is) ∙ c.from_bytes-read.ensures)

@@ -1,0 +1,11 @@
+-- `listing::metadatas::print_options` is safe and ends: it prints as often as the area has bytes, at most.
+use Prim.Native.Nat.{◌≤◌, ◌-◌}
+use lib.ListN.{length}
+use borrow.Author.Rules.{rules}
+use Rattle.listing.proofs.metadatas.print_options.Given as goal
+
+abbrev pub invariant-loop-i : goal.invariant-loop-i
+invariant-loop-i l = l.i ≤ length l.area
+
+abbrev pub decreases-loop-i : goal.decreases-loop-i
+decreases-loop-i l = length l.area - l.i
