@@ -1,0 +1,19 @@
+-- `cfdp::write::cfdp_nak_write` meets its contract: what the writer of no list says and stores, of the header that was given.
+use mathlib.Core.Path.{ap, ◌∙◌}
+use Rattle.cfdp.specs.Shown.{shown, written_numbers}
+use Rattle.cfdp.proofs.Given.{none_shown, none_left, given_is, given_shown, given_left}
+use borrow.Author.Rules.{rules}
+use Rattle.cfdp.proofs.write.cfdp_nak_write.Goals as goal
+
+pub returns-then-widths_differ : goal.returns-then-widths_differ
+returns-then-widths_differ c =
+    let apart = c.widths_differ in
+    record { answered = none_shown written_numbers _ _ _ _ apart.ensures.said c.if-widths_differ.true _ _ _ apart.ensures.answered; stored = none_left _ _ _ _ apart.ensures.said c.if-widths_differ.true _ _ }
+
+pub returns : goal.returns
+returns c =
+    let widths_differ_lem = c.widths_differ in
+    let header_of = c.header_of-header in
+    let write-no-segment-requests = c.write_no_segment_requests-written in
+    let given = given_is _ _ _ _ widths_differ_lem.ensures.said c.if-widths_differ.false _ header_of.ensures in
+    record { answered = given_shown written_numbers _ _ _ _ given (c.show_written.ensures ∙ ap (shown written_numbers) write-no-segment-requests.ensures.answered); stored = given_left _ _ _ _ _ given write-no-segment-requests.ensures.stored }
