@@ -2,32 +2,72 @@
 // What is printed is tested and not proved.
 #![tactic(auto)]
 
+ghost use Rattle.std.specs.Prelude.{◌≤◌, length};
+
 use ranges::differ;
 use ranges::differ::{DifferResult, Differences};
+use std::env::{Env, FillError};
+use std::fs::File;
+use std::io::Read;
+use std::rt::Files;
 
 // The descriptor of standard output.
 const STDOUT_FILENO: i32 = 1;
-
-// The descriptor of standard error.
-const STDERR_FILENO: i32 = 2;
 
 // Three numbers for each request that two files can have: of 8,192 bytes a header takes 7 at least, the code 1 and the scope 8, so that 1,022 pairs of
 // 8 bytes are left. With so much room a comparison is never refused for want of it.
 const LENT: usize = 6132;
 
-// The file that an argument names, opened for reading; where it cannot be, that is said, and the answer is below 0.
-fn open_named(argument: usize) -> i32 {
-    let mut path = io::buffer();
-    let length = os::arg(argument, &mut path);
-    if os::errno() != 0 {
-        os::fail(b"the name of a file");
-        return -1;
+// Whether the program was started with so many arguments, its own name among them.
+fn has_argument(rt: &impl Env, argument: usize) -> bool {
+    let mut none = [0u8; 0];
+    match rt.arg(argument, &mut none) {
+        Err(FillError::NotPresent) => false,
+        _ => true,
     }
-    let file = os::open_read(&path[..length]);
-    if file < 0 {
-        os::fail(&path[..length]);
+}
+
+// What failed, and the system's words for it, without the number that an error has behind them.
+fn say<R: Alloc + Eprint>(rt: &R, what: &str, error: &std::io::Error) -> std::io::Result<()> {
+    let text = error.to_string(rt.alloc())?;
+    match text.as_str().split_once(" (os error") {
+        Some((words, _)) => rt.eprintln(format_args!("{what}: {words}")),
+        None => rt.eprintln(format_args!("{what}: {text}")),
     }
-    file
+}
+
+// The file that an argument names, opened for reading; where it cannot be, that is said.
+fn open_named<R: Env + Files + Alloc + Eprint>(rt: &R, argument: usize) -> std::io::Result<Option<R::File>> {
+    let mut path = [0u8; 4096];
+    let Ok(length) = rt.arg(argument, &mut path) else {
+        rt.eprintln("the name of a file: File name too long")?;
+        return Ok(None);
+    };
+    let Ok(name) = str::from_utf8(&path[..length]) else {
+        rt.eprintln("the name of a file: not UTF-8")?;
+        return Ok(None);
+    };
+    match File::open(rt, name) {
+        Ok(file) => Ok(Some(file)),
+        Err(error) => {
+            say(rt, name, &error)?;
+            Ok(None)
+        }
+    }
+}
+
+// Reads until the buffer is full or the file at its end, where one that cannot be read ends: how many bytes that are.
+fn read_full(file: &mut impl Read, bytes: &mut [u8]) -> usize
+    ensures { result ≤ length bytes.new }
+{
+    let mut there = 0;
+    while there < bytes.len() {
+        match file.read(&mut bytes[there..]) {
+            Ok(0) | Err(_) => return there,
+            Ok(n) => there += n,
+        }
+    }
+    there
 }
 
 fn print_number(n: u64) {
@@ -76,11 +116,11 @@ fn print_found(found: Differences, lent: &[u64]) {
     io::write_all(STDOUT_FILENO, b"\n");
 }
 
-fn compare(first: i32, second: i32) {
+fn compare(first: &mut impl Read, second: &mut impl Read) {
     let mut bytes1 = [0u8; 8192];
     let mut bytes2 = [0u8; 8192];
-    let length1 = io::read_full(first, &mut bytes1);
-    let length2 = io::read_full(second, &mut bytes2);
+    let length1 = read_full(first, &mut bytes1);
+    let length2 = read_full(second, &mut bytes2);
     let mut lent = [0u64; LENT];
     let result = differ::differ(&bytes1[..length1], &bytes2[..length2], &mut lent);
     match result {
@@ -91,18 +131,16 @@ fn compare(first: i32, second: i32) {
     }
 }
 
-fn main() {
-    if os::arg_count() != 3 {
-        io::write_all(STDERR_FILENO, b"nakdiff FILE FILE\n");
-        return;
+fn main(rt: HostRuntime) -> std::io::Result<()> {
+    if !has_argument(&rt, 2) || has_argument(&rt, 3) {
+        return rt.eprintln("nakdiff FILE FILE");
     }
-    let first = open_named(1);
-    if first < 0 {
-        return;
-    }
-    let second = open_named(2);
-    if second < 0 {
-        return;
-    }
-    compare(first, second);
+    let Some(mut first) = open_named(&rt, 1)? else {
+        return Ok(());
+    };
+    let Some(mut second) = open_named(&rt, 2)? else {
+        return Ok(());
+    };
+    compare(&mut first, &mut second);
+    Ok(())
 }

@@ -2,9 +2,7 @@
 #![tactic(auto)]
 
 use receiver::Outcome;
-
-// The descriptor of standard input.
-const STDIN_FILENO: i32 = 0;
+use std::io::Read;
 
 // How many bytes of the next PDU are in the window, and whether the stream goes on.
 #[derive(Clone, Copy)]
@@ -49,28 +47,25 @@ fn offer(window: &mut [u8; 2048], filled: usize, fragment: &[u8]) -> Left {
     }
 }
 
-// One read, of what has come.
-fn read_some(window: &mut [u8; 2048], filled: usize) -> Left {
+// One read, of what has come. A read that fails ends the stream.
+fn read_some(input: &mut impl Read, window: &mut [u8; 2048], filled: usize) -> Left {
     let mut buffer = [0u8; 4096];
-    let got = libc::read(STDIN_FILENO, &mut buffer);
-    let n = io::count(got, &buffer);
-    if n == 0 {
-        return Left { filled, on: false };
+    match input.read(&mut buffer) {
+        Ok(0) | Err(_) => Left { filled, on: false },
+        Ok(n) => offer(window, filled, &buffer[..n]),
     }
-    offer(window, filled, &buffer[..n])
 }
 
-// A proved loop has to end, and nothing says that a stream does: the turns count down from a number that no run uses up.
-fn main() {
+// A proved loop has to end, and nothing says that a stream does: there are as many turns as no run uses up.
+fn main(rt: HostRuntime) {
+    let mut input = rt.reader();
     let mut window = [0u8; 2048];
     let mut filled = 0;
-    let mut turns = u64::MAX;
-    while turns > 0 {
-        let left = read_some(&mut window, filled);
+    for _ in 0..u64::MAX {
+        let left = read_some(&mut input, &mut window, filled);
         if !left.on {
             return;
         }
         filled = left.filled;
-        turns -= 1;
     }
 }

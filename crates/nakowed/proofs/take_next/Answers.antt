@@ -1,8 +1,8 @@
 -- `nakowed::take_next` is safe: what was read lies in the buffer.
 use mathlib.Core.Path.{sym}
 use lib.Seq.{length-take-le}
-use borrow.Author.Rules.{rules}
+use native.Mathlib.Omega.{arith}
 use Rattle.nakowed.proofs.take_next.Goals as goal
 
 pub slice_bounds-entry-end-2 : goal.slice_bounds-entry-end-2
-slice_bounds-entry-end-2 c = sym (length-take-le _ _ (slice-reshare-prefix-entry c))
+slice_bounds-entry-end-2 c = sym (length-take-le _ _ (omega arith))
