@@ -23,8 +23,7 @@ fn show_ack(ack: Ack, answer: &mut Answer)
     show_header(ack.header, acked, condition, bits, stop, 0, answer)
 }
 
-#[unsafe(no_mangle)]
-pub extern "C" fn cfdp_ack_read(bytes: &[u8], answer: &mut Answer)
+pub fn cfdp_ack_read(bytes: &[u8], answer: &mut Answer)
     ensures { answer.new ≡ shown ack_numbers (run reading_ack bytes.now) }
 {
     let read = Ack::from_bytes(bytes);
@@ -34,8 +33,7 @@ pub extern "C" fn cfdp_ack_read(bytes: &[u8], answer: &mut Answer)
     }
 }
 
-#[unsafe(no_mangle)]
-pub extern "C" fn cfdp_ack_write(
+pub fn cfdp_ack_write(
     shape: &[u8; 10],
     ids: &[u64; 3],
     directive: u8,

@@ -33,8 +33,7 @@ fn reader_first(bytes: &[u8], answer: &mut Answer)
     }
 }
 
-#[unsafe(no_mangle)]
-pub extern "C" fn cfdp_nak_compare(
+pub fn cfdp_nak_compare(
     bytes: &[u8],
     shape: &[u8; 10],
     ids: &[u64; 3],
@@ -52,8 +51,7 @@ pub extern "C" fn cfdp_nak_compare(
     show_verdict(compared, answer)
 }
 
-#[unsafe(no_mangle)]
-pub extern "C" fn cfdp_nak_compare_normal(
+pub fn cfdp_nak_compare_normal(
     bytes: &[u8],
     shape: &[u8; 10],
     ids: &[u64; 3],
@@ -72,8 +70,7 @@ pub extern "C" fn cfdp_nak_compare_normal(
     show_verdict(compared, answer)
 }
 
-#[unsafe(no_mangle)]
-pub extern "C" fn cfdp_nak_compare_large(
+pub fn cfdp_nak_compare_large(
     bytes: &[u8],
     shape: &[u8; 10],
     ids: &[u64; 3],

@@ -26,8 +26,7 @@ fn show_differences(found: Differences, answer: &mut Answer)
     answer[3] = found.ranges as u64;
 }
 
-#[unsafe(no_mangle)]
-pub extern "C" fn cfdp_differ(first: &[u8], second: &[u8], ranges: &mut [u64], answer: &mut Answer)
+pub fn cfdp_differ(first: &[u8], second: &[u8], ranges: &mut [u64], answer: &mut Answer)
     ensures answered { answer.new ≡ shown differ_numbers (differing first.now second.now (length ranges.old)) }
     ensures stored { ranges.new ≡ differ_memory first.now second.now ranges.old }
 {

@@ -70,8 +70,7 @@ fn show_eof(eof: Eof, answer: &mut Answer)
     answer[21] = stop;
 }
 
-#[unsafe(no_mangle)]
-pub extern "C" fn cfdp_eof_read(bytes: &[u8], answer: &mut Answer)
+pub fn cfdp_eof_read(bytes: &[u8], answer: &mut Answer)
     ensures { answer.new ≡ shown eof_numbers (run reading_eof bytes.now) }
 {
     let read = Eof::from_bytes(bytes);
@@ -81,8 +80,7 @@ pub extern "C" fn cfdp_eof_read(bytes: &[u8], answer: &mut Answer)
     }
 }
 
-#[unsafe(no_mangle)]
-pub extern "C" fn cfdp_eof_write(
+pub fn cfdp_eof_write(
     shape: &[u8; 10],
     ids: &[u64; 3],
     condition: u8,

@@ -15,15 +15,13 @@ use crate::{Answer, header_of, show_header, show_length, show_refusal, widths_di
 use fields::crc;
 use header::{HeaderResult, PduHeader};
 
-#[unsafe(no_mangle)]
-pub extern "C" fn cfdp_checksum(bytes: &[u8]) -> u16
+pub fn cfdp_checksum(bytes: &[u8]) -> u16
     ensures { result ≡ checksum_of bytes.now }
 {
     crc::checksum(bytes)
 }
 
-#[unsafe(no_mangle)]
-pub extern "C" fn cfdp_header_read(bytes: &[u8], answer: &mut Answer)
+pub fn cfdp_header_read(bytes: &[u8], answer: &mut Answer)
     ensures { answer.new ≡ shown read_header_numbers (run reading_header bytes.now) }
 {
     let read = PduHeader::from_bytes(bytes);
@@ -45,13 +43,7 @@ fn show_built(res: HeaderResult, answer: &mut Answer)
     }
 }
 
-#[unsafe(no_mangle)]
-pub extern "C" fn cfdp_header_build(
-    shape: &[u8; 10],
-    data_length: u16,
-    ids: &[u64; 3],
-    answer: &mut Answer,
-)
+pub fn cfdp_header_build(shape: &[u8; 10], data_length: u16, ids: &[u64; 3], answer: &mut Answer)
     ensures { answer.new ≡ shown header_numbers (and_then (header_from shape.now data_length ids.now) judging) }
 {
     if widths_differ(shape, answer) {
@@ -62,8 +54,7 @@ pub extern "C" fn cfdp_header_build(
     show_built(built, answer)
 }
 
-#[unsafe(no_mangle)]
-pub extern "C" fn cfdp_header_write(
+pub fn cfdp_header_write(
     shape: &[u8; 10],
     data_length: u16,
     ids: &[u64; 3],
@@ -81,8 +72,7 @@ pub extern "C" fn cfdp_header_write(
     show_length(written, answer)
 }
 
-#[unsafe(no_mangle)]
-pub extern "C" fn cfdp_header_verify(
+pub fn cfdp_header_verify(
     shape: &[u8; 10],
     data_length: u16,
     ids: &[u64; 3],

@@ -34,8 +34,7 @@ fn show_metadata(metadata: Metadata, answer: &mut Answer)
     answer[23] = metadata.options.stop as u64;
 }
 
-#[unsafe(no_mangle)]
-pub extern "C" fn cfdp_metadata_read(bytes: &[u8], answer: &mut Answer)
+pub fn cfdp_metadata_read(bytes: &[u8], answer: &mut Answer)
     ensures { answer.new ≡ shown metadata_numbers (run reading_metadata bytes.now) }
 {
     let read = Metadata::from_bytes(bytes);
@@ -54,8 +53,7 @@ fn show_option(option: Field, next: FieldCursor, answer: &mut Answer)
     answer[4] = next.at as u64;
 }
 
-#[unsafe(no_mangle)]
-pub extern "C" fn cfdp_metadata_option(area: &[u8], at: usize, answer: &mut Answer)
+pub fn cfdp_metadata_option(area: &[u8], at: usize, answer: &mut Answer)
     ensures { answer.new ≡ option_shown (next_field Form.Tlv area.now at) }
 {
     let cursor = FieldCursor { at };
@@ -67,8 +65,7 @@ pub extern "C" fn cfdp_metadata_option(area: &[u8], at: usize, answer: &mut Answ
     }
 }
 
-#[unsafe(no_mangle)]
-pub extern "C" fn cfdp_metadata_write(
+pub fn cfdp_metadata_write(
     shape: &[u8; 10],
     ids: &[u64; 3],
     closure: bool,

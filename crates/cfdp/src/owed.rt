@@ -11,8 +11,7 @@ use ranges::owed::{EntryResult, RunResult, State};
 // Where a run's offset stands, behind a refusal's values.
 const STOOD_AT: usize = 3;
 
-#[unsafe(no_mangle)]
-pub extern "C" fn cfdp_owed_entry(bytes: &[u8], at: usize, state: &mut State, answer: &mut Answer)
+pub fn cfdp_owed_entry(bytes: &[u8], at: usize, state: &mut State, answer: &mut Answer)
     ensures answered { answer.new ≡ shown one_number (entry_taken at bytes.now state.old) }
     ensures stored { state.new ≡ entry_memory at bytes.now state.old }
 {
@@ -23,8 +22,7 @@ pub extern "C" fn cfdp_owed_entry(bytes: &[u8], at: usize, state: &mut State, an
     }
 }
 
-#[unsafe(no_mangle)]
-pub extern "C" fn cfdp_owed_run(log: &[u8], from: usize, state: &mut State, answer: &mut Answer)
+pub fn cfdp_owed_run(log: &[u8], from: usize, state: &mut State, answer: &mut Answer)
     ensures answered { answer.new ≡ standing (running from (drop from log.now) state.old).stop }
     ensures stored { state.new ≡ (running from (drop from log.now) state.old).memory }
 {

@@ -35,8 +35,7 @@ fn show_planned(res: Planned, answer: &mut Answer)
     }
 }
 
-#[unsafe(no_mangle)]
-pub extern "C" fn cfdp_plan_check(
+pub fn cfdp_plan_check(
     shape: &[u8; 10],
     ids: &[u64; 3],
     packet: usize,
@@ -57,8 +56,7 @@ pub extern "C" fn cfdp_plan_check(
     show_checked(checked, answer)
 }
 
-#[unsafe(no_mangle)]
-pub extern "C" fn cfdp_plan(
+pub fn cfdp_plan(
     shape: &[u8; 10],
     ids: &[u64; 3],
     packet: usize,

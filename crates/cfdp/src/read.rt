@@ -12,8 +12,7 @@ use header::LargeFileFlag;
 use nak::requests::{NextRequest, RequestCursor};
 use nak::{Nak, NakResult};
 
-#[unsafe(no_mangle)]
-pub extern "C" fn cfdp_nak_read(bytes: &[u8], answer: &mut Answer)
+pub fn cfdp_nak_read(bytes: &[u8], answer: &mut Answer)
     ensures { answer.new ≡ shown nak_numbers (run reading_nak bytes.now) }
 {
     let read = Nak::from_bytes(bytes);
@@ -73,8 +72,7 @@ fn pair_at(area: &[u8], large: bool, index: usize) -> Found
     }
 }
 
-#[unsafe(no_mangle)]
-pub extern "C" fn cfdp_nak_pair(area: &[u8], large: bool, index: usize, pair: &mut [u64; 2]) -> bool
+pub fn cfdp_nak_pair(area: &[u8], large: bool, index: usize, pair: &mut [u64; 2]) -> bool
     ensures answered { result ≡ is_pair large area.now index }
     ensures stored { pair.new ≡ pair_at large area.now index }
 {
@@ -83,8 +81,7 @@ pub extern "C" fn cfdp_nak_pair(area: &[u8], large: bool, index: usize, pair: &m
     found.there
 }
 
-#[unsafe(no_mangle)]
-pub extern "C" fn cfdp_nak_pairs(area: &[u8], large: bool, numbers: &mut [u64]) -> usize
+pub fn cfdp_nak_pairs(area: &[u8], large: bool, numbers: &mut [u64]) -> usize
     ensures answered { result ≡ length (copied large area.now (length numbers.old)) }
     ensures stored { numbers.new ≡ copied_into large area.now numbers.old }
 {

@@ -17,8 +17,7 @@ fn show_outcome(outcome: Outcome, answer: &mut Answer)
     }
 }
 
-#[unsafe(no_mangle)]
-pub extern "C" fn cfdp_receive(
+pub fn cfdp_receive(
     window: &mut [u8; 2048],
     filled: &mut usize,
     fragment: &[u8],

@@ -23,8 +23,7 @@ fn show_reserved(res: ReserveResult, answer: &mut Answer)
     }
 }
 
-#[unsafe(no_mangle)]
-pub extern "C" fn cfdp_nak_reserve(
+pub fn cfdp_nak_reserve(
     shape: &[u8; 10],
     ids: &[u64; 3],
     pairs: usize,
@@ -42,8 +41,7 @@ pub extern "C" fn cfdp_nak_reserve(
 }
 
 // What `cfdp_nak_reserve` was given is given again: where the area lies is worked out anew.
-#[unsafe(no_mangle)]
-pub extern "C" fn cfdp_nak_finish(
+pub fn cfdp_nak_finish(
     shape: &[u8; 10],
     ids: &[u64; 3],
     pairs: usize,

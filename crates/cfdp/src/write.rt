@@ -11,8 +11,7 @@ use header::LargeFileFlag;
 use nak::count::CountResult;
 use nak::{count, write};
 
-#[unsafe(no_mangle)]
-pub extern "C" fn cfdp_nak_write(
+pub fn cfdp_nak_write(
     shape: &[u8; 10],
     ids: &[u64; 3],
     start: u64,
@@ -31,8 +30,7 @@ pub extern "C" fn cfdp_nak_write(
     show_written(written, answer)
 }
 
-#[unsafe(no_mangle)]
-pub extern "C" fn cfdp_nak_write_normal(
+pub fn cfdp_nak_write_normal(
     shape: &[u8; 10],
     ids: &[u64; 3],
     start: u64,
@@ -52,8 +50,7 @@ pub extern "C" fn cfdp_nak_write_normal(
     show_written(written, answer)
 }
 
-#[unsafe(no_mangle)]
-pub extern "C" fn cfdp_nak_write_large(
+pub fn cfdp_nak_write_large(
     shape: &[u8; 10],
     ids: &[u64; 3],
     start: u64,
@@ -82,13 +79,7 @@ fn show_count(res: CountResult, answer: &mut Answer)
     }
 }
 
-#[unsafe(no_mangle)]
-pub extern "C" fn cfdp_nak_most(
-    shape: &[u8; 10],
-    ids: &[u64; 3],
-    packet: usize,
-    answer: &mut Answer,
-)
+pub fn cfdp_nak_most(shape: &[u8; 10], ids: &[u64; 3], packet: usize, answer: &mut Answer)
     ensures { answer.new ≡ shown one_number (and_then (given_header shape.now ids.now) (λ h. most_requests h packet)) }
 {
     if widths_differ(shape, answer) {

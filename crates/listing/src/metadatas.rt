@@ -4,8 +4,7 @@ ghost use Rattle.fields.specs.Staged.{run};
 ghost use Rattle.metadata.specs.Reading.{reading_metadata};
 ghost use Rattle.listing.specs.Listing.{is_accepted, is_plain};
 
-use crate::{print_ids, print_line, print_number, print_refusal};
-use crate::STDOUT_FILENO;
+use crate::{STDOUT_FILENO, print_ids, print_line, print_number, print_refusal};
 use metadata::write::closure_bit;
 use metadata::{Metadata, MetadataParams, MetadataResult, parts};
 use tlv::Field;

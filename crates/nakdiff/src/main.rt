@@ -37,7 +37,10 @@ fn say<R: Alloc + Eprint>(rt: &R, what: &str, error: &std::io::Error) -> std::io
 }
 
 // The file that an argument names, opened for reading; where it cannot be, that is said.
-fn open_named<R: Env + Files + Alloc + Eprint>(rt: &R, argument: usize) -> std::io::Result<Option<R::File>> {
+fn open_named<R: Env + Files + Alloc + Eprint>(
+    rt: &R,
+    argument: usize,
+) -> std::io::Result<Option<R::File>> {
     let mut path = [0u8; 4096];
     let Ok(length) = rt.arg(argument, &mut path) else {
         rt.eprintln("the name of a file: File name too long")?;

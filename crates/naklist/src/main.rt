@@ -1,7 +1,6 @@
 // Prints the NAK on standard input, of which it reads at most the first 32,768 bytes, or why it is refused.
 #![tactic(auto)]
 
-
 // The descriptor of standard input.
 const STDIN_FILENO: i32 = 0;
 

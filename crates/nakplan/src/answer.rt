@@ -2,6 +2,7 @@
 ghost use Rattle.std.specs.Prelude.{◌<◌};
 ghost use Rattle.io.specs.Counts.{IsPrefixLen};
 
+use crate::STDOUT_FILENO;
 use crate::task::{MOST_NAKS, MOST_RANGES, NAKS, REQUESTS, STORE_LEN, Task};
 use crate::words::MOST_NUMBERS;
 use fields::{TransactionSeqNum, UnsignedByteField};
@@ -9,7 +10,6 @@ use header::{
     CrcFlag, Direction, HeaderResult, LargeFileFlag, PduHeader, PduType, SegmentMetadataFlag,
     SegmentationControl, TransmissionMode,
 };
-use crate::STDOUT_FILENO;
 use plan::checker::Checked;
 use plan::planner::Planned;
 use plan::{checker, planner};

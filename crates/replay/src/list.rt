@@ -2,8 +2,8 @@
 ghost use Rattle.std.specs.Prelude.{◌≤◌};
 ghost use Rattle.io.specs.Counts.{IsPrefixLen};
 
-use fields::be;
 use crate::STDIN_FILENO;
+use fields::be;
 
 // The longest parts of the list: bytes or a lent buffer, numbers of 4 bytes, numbers of 8 bytes.
 pub const MOST_BYTES: usize = 65545;

@@ -2,7 +2,6 @@
 // file `stdout`, is from Python's `binascii.crc_hqx`, by the command in docs/DECISIONS.md, 'The checksum'.
 #![tactic(auto)]
 
-
 // The descriptor of standard output.
 const STDOUT_FILENO: i32 = 1;
 

@@ -30,8 +30,7 @@ returns-then-not-same c =
 pub lay_ranges-ranges-requires : goal.lay_ranges-ranges-requires
 lay_ranges-ranges-requires c =
     let asked_in = c.asked_in-asked1 in
-    let asked-in2 = c.asked_in-asked2 in
-    (
+    let asked-in2 = c.asked_in-asked2 in (
       others_rise _ _ _ asked_in.ensures.1 asked_in.ensures.2 c.if-pair1-ne0.false,
       others_rise _ _ _ asked-in2.ensures.1 asked-in2.ensures.2 c.if-pair2-ne0.false,
     )
@@ -48,8 +47,7 @@ returns-then-lent-ranges c =
 pub lay_ranges-requires : goal.lay_ranges-requires
 lay_ranges-requires c =
     let asked_in = c.asked_in-asked1 in
-    let asked-in2 = c.asked_in-asked2 in
-    (
+    let asked-in2 = c.asked_in-asked2 in (
       others_rise _ _ _ asked_in.ensures.1 asked_in.ensures.2 c.if-pair1-ne0.false,
       others_rise _ _ _ asked-in2.ensures.1 asked-in2.ensures.2 c.if-pair2-ne0.false,
     )

@@ -7,7 +7,7 @@ use Rattle.header.proofs.code.DirectiveKind.from_code.Goals.{in-12-1, in_default
 pub returns-then-code-own : goal.returns-then-code-own
 returns-then-code-own c =
     elim c.in-4-to-9-1.branch [
-      in-12-1 w ↦ own_code _ _ (known_twelve _ (omega arith)) c.if-code-own.true
+      | in-12-1 w ↦ own_code _ _ (known_twelve _ (omega arith)) c.if-code-own.true
       | in_default+else-code-lt4+then-code-lt10 w ↦ own_code _ _ (known_range _ (omega arith) (omega arith)) c.if-code-own.true
     ]
 
@@ -20,6 +20,6 @@ returns-in_default-2 c = unknown_code _ _ (unknown_high _ (omega arith) (λ e. o
 pub returns-else-code-own : goal.returns-else-code-own
 returns-else-code-own c =
     elim c.in-4-to-9-1.branch [
-      in-12-1 w ↦ known_code _ _ (known_twelve _ (omega arith)) c.if-code-own.false
+      | in-12-1 w ↦ known_code _ _ (known_twelve _ (omega arith)) c.if-code-own.false
       | in_default+else-code-lt4+then-code-lt10 w ↦ known_code _ _ (known_range _ (omega arith) (omega arith)) c.if-code-own.false
     ]
