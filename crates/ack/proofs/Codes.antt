@@ -11,7 +11,7 @@ use Rattle.fields.specs.Choice.{if◌then◌else◌}
 use Rattle.fields.specs.Answer.{accepted, told, all_of}
 use Rattle.fields.proofs.Judging.{Passed, judged_passed, passed_on, refused_on, told_is_refused}
 use Rattle.header.specs.declared.flags.Direction.TheVariants.{TowardsReceiver, TowardsSender}
-use Rattle.header.specs.Condition.{is_condition, reserved_condition}
+use Rattle.header.specs.Condition.{reserved_condition}
 use Rattle.header.proofs.Conditions.{condition_small}
 use Rattle.ack.specs.declared.status.TransactionStatus.{TransactionStatus}
 use Rattle.ack.specs.declared.status.TransactionStatus.TheVariants.{Undefined, Active, Terminated, Unrecognized}

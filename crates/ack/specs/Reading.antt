@@ -5,7 +5,7 @@ use Rattle.fields.specs.Refusal.{paper}
 use Rattle.fields.specs.Staged.{Staged, accept, ◌>>=◌, ◌>>◌, tests}
 use Rattle.header.specs.declared.PduHeader.{PduHeader}
 use Rattle.header.specs.Header.{header_length, data_end}
-use Rattle.header.specs.Directive.{data_short, PduRead, reading_directive}
+use Rattle.header.specs.Directive.{data_short, reading_directive}
 use Rattle.ack.specs.declared.Ack.{Ack}
 use Rattle.ack.specs.declared.AckResult.{AckResult}
 use Rattle.ack.specs.declared.AckResult.TheVariants.{Ack as Read, Refused}

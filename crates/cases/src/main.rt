@@ -1,5 +1,4 @@
-// Runs every published checksum vector that we know, document 01's cases, and cases of the rules of documents 01 and 02.
-// Each is printed with where it comes from and what it gives.
+// Runs every published checksum vector that we know, document 01's cases, and cases of the rules of documents 01 and 02; each is printed with where it comes from and what it gives.
 #![tactic(auto)]
 
 use ack::Ack;
@@ -7,7 +6,7 @@ use ack::status::TransactionStatus;
 use eof::Eof;
 use eof::fault::{EntityIdTlv, FaultLocation};
 use fields::{EntityId, TransactionSeqNum, UnsignedByteField, be};
-use header::pdu::{PduWritten, WriteResult};
+use header::pdu::WriteResult;
 use header::{
     CrcFlag, Direction, LargeFileFlag, PduHeader, PduType, SegmentMetadataFlag,
     SegmentationControl, TransmissionMode,
@@ -66,36 +65,25 @@ fn vector(source: &[u8], s: &[u8]) {
     );
 }
 
-// What stands before a worked example.
-fn worked(example: &[u8], bytes: &[u8]) {
-    io::write_all(STDOUT_FILENO, example);
-    io::write_all(STDOUT_FILENO, b": ");
+fn reading(document: &[u8], bytes: &[u8]) {
+    io::write_all(STDOUT_FILENO, document);
+    io::write_all(STDOUT_FILENO, b", reading: ");
     print_bytes(bytes);
     io::write_all(STDOUT_FILENO, b"->\n");
-}
-
-fn reading(example: &[u8], bytes: &[u8]) {
-    worked(example, bytes);
     listing::list(bytes);
 }
 
-fn catalogue_vectors() {
-    let catalogue: &[u8] = b"RevEng catalogue, CRC-16/IBM-3740";
+fn checksums() {
+    let catalogue = b"RevEng catalogue, CRC-16/IBM-3740";
     vector(catalogue, b"");
     vector(catalogue, b"123456789");
-}
-
-fn annex_vectors() {
-    let annex: &[u8] = b"ECSS-E-ST-70-41C, annex B";
+    let annex = b"ECSS-E-ST-70-41C, annex B";
     vector(annex, &[0x00, 0x00]);
     vector(annex, &[0x00, 0x00, 0x00]);
     vector(annex, &[0xAB, 0xCD, 0xEF, 0x01]);
     vector(annex, &[0x14, 0x56, 0xF8, 0x9A, 0x00, 0x01]);
-}
-
-// The published ones are short: eight bytes that go at a time, seven such and seven single bytes, and 64, which go by the table.
-fn long_vectors() {
-    let python: &[u8] = b"Python's binascii.crc_hqx from 0xFFFF";
+    // The published ones are short: eight bytes that go at a time, seven such and seven single bytes, and 64, which go by the table.
+    let python = b"Python's binascii.crc_hqx from 0xFFFF";
     vector(python, &[0xFE, 0xDC, 0xBA, 0x98, 0x76, 0x54, 0x32, 0x10]);
     vector(
         python,
@@ -108,19 +96,19 @@ fn long_vectors() {
 }
 
 fn readings() {
-    let example: &[u8] = b"document 01, reading";
-    let n: &[u8] = &N;
-    reading(example, &LONGER);
-    reading(example, &n[..20]);
+    let longer = LONGER;
+    reading(b"document 01", &longer);
+    let n = N;
+    reading(b"document 01", &n[..20]);
 }
 
 // A header of widths 1, with the identifiers and the number of N.
-fn header_of(kind: PduType, crc: CrcFlag, file: LargeFileFlag) -> PduHeader {
+fn header(file: LargeFileFlag) -> PduHeader {
     PduHeader {
-        kind,
+        kind: PduType::FileDirective,
         direction: Direction::TowardsReceiver,
         mode: TransmissionMode::Acknowledged,
-        crc,
+        crc: CrcFlag::NoCrc,
         file,
         length: 0,
         control: SegmentationControl::NoRecordBoundaryPreservation,
@@ -132,48 +120,33 @@ fn header_of(kind: PduType, crc: CrcFlag, file: LargeFileFlag) -> PduHeader {
     }
 }
 
-// That of N.
-fn header() -> PduHeader {
-    header_of(
-        PduType::FileDirective,
-        CrcFlag::NoCrc,
-        LargeFileFlag::Normal,
-    )
-}
-
-fn large() -> PduHeader {
-    header_of(PduType::FileDirective, CrcFlag::NoCrc, LargeFileFlag::Large)
-}
-
 fn summed(file: LargeFileFlag) -> PduHeader {
-    header_of(PduType::FileDirective, CrcFlag::WithCrc, file)
+    PduHeader {
+        crc: CrcFlag::WithCrc,
+        ..header(file)
+    }
 }
 
-// What a case is; what it gives stands after it.
-fn print_case(case: &[u8]) {
-    io::write_all(STDOUT_FILENO, case);
-    io::write_all(STDOUT_FILENO, b" -> ");
-}
-
-fn print_number(word: &[u8], n: u64) {
-    io::write_all(STDOUT_FILENO, word);
-    io::print_decimal(STDOUT_FILENO, n);
-}
-
-fn print_written(written: PduWritten) {
-    let header = written.header;
-    print_number(b"written ", written.length as u64);
-    print_number(b", length ", header.length as u64);
-    io::write_all(STDOUT_FILENO, b"\n");
+fn writing(case: &[u8], res: WriteResult) {
+    io::write_all(STDOUT_FILENO, b"document 01, writing: ");
+    written(case, res);
 }
 
 fn written(case: &[u8], res: WriteResult) {
-    print_case(case);
+    io::write_all(STDOUT_FILENO, case);
+    io::write_all(STDOUT_FILENO, b" -> ");
     match res {
         WriteResult::Refused(refusal) => {
             listing::print_refusal(refusal);
         }
-        WriteResult::Written(written) => print_written(written),
+        WriteResult::Written(written) => {
+            let header = written.header;
+            io::write_all(STDOUT_FILENO, b"written ");
+            io::print_decimal(STDOUT_FILENO, written.length as u64);
+            io::write_all(STDOUT_FILENO, b", length ");
+            io::print_decimal(STDOUT_FILENO, header.length as u64);
+            io::write_all(STDOUT_FILENO, b"\n");
+        }
     }
 }
 
@@ -183,110 +156,98 @@ fn left(buf: &[u8]) {
     io::write_all(STDOUT_FILENO, b"left\n");
 }
 
-fn writes_normal(case: &[u8], end: u64, numbers: &[u32]) {
-    let mut buf = [0u8; 65543];
-    let h = header();
-    written(
-        case,
-        write::write_normal_file_size(h, 0, end, numbers, &mut buf),
-    );
-}
-
 fn normal_lists() {
-    writes_normal(
-        b"document 01, writing: 8,190 normal pairs",
-        1000,
-        &[7; 16380],
+    let numbers = [7u32; 16600];
+    let mut buf = [0u8; 65543];
+    let h = header(LargeFileFlag::Normal);
+    writing(
+        b"8,190 normal pairs",
+        write::write_normal_file_size(h, 0, 1000, &numbers[..16380], &mut buf),
     );
-    writes_normal(
-        b"document 01, writing: 8,191 normal pairs",
-        1000,
-        &[7; 16382],
+    writing(
+        b"8,191 normal pairs",
+        write::write_normal_file_size(h, 0, 1000, &numbers[..16382], &mut buf),
     );
-    writes_normal(
-        b"document 01, writing: 8,300 normal pairs",
-        1000,
-        &[7; 16600],
+    writing(
+        b"8,300 normal pairs",
+        write::write_normal_file_size(h, 0, 1000, &numbers, &mut buf),
     );
-    writes_normal(b"document 01, writing: three numbers", 1000, &[7; 3]);
-}
-
-fn normal_scopes() {
-    let numbers: &[u32] = &[7; 2];
-    writes_normal(
-        b"document 01, writing: scope end 4,294,967,295",
-        4294967295,
-        numbers,
+    writing(
+        b"three numbers",
+        write::write_normal_file_size(h, 0, 1000, &numbers[..3], &mut buf),
     );
-    writes_normal(
-        b"document 01, writing: scope end 4,294,967,296",
-        4294967296,
-        numbers,
+    writing(
+        b"scope end 4,294,967,295",
+        write::write_normal_file_size(h, 0, 4294967295, &numbers[..2], &mut buf),
     );
-}
-
-fn writes_large(case: &[u8], numbers: &[u64]) {
-    let mut buf = [0u8; 65535];
-    let h = header();
-    written(
-        case,
-        write::write_large_file_size(h, 0, 1000, numbers, &mut buf),
+    writing(
+        b"scope end 4,294,967,296",
+        write::write_normal_file_size(h, 0, 4294967296, &numbers[..2], &mut buf),
     );
 }
 
 fn large_lists() {
-    writes_large(b"document 01, writing: 4,094 large pairs", &[7; 8188]);
-    writes_large(b"document 01, writing: 4,095 large pairs", &[7; 8190]);
+    let numbers = [7u64; 8190];
+    let mut buf = [0u8; 65535];
+    let h = header(LargeFileFlag::Normal);
+    writing(
+        b"4,094 large pairs",
+        write::write_large_file_size(h, 0, 1000, &numbers[..8188], &mut buf),
+    );
+    writing(
+        b"4,095 large pairs",
+        write::write_large_file_size(h, 0, 1000, &numbers, &mut buf),
+    );
 }
 
 // What is written is N, byte for byte, and reads back.
 fn writes_n() {
     let numbers = [100u32, 200u32];
     let mut buf = [0u8; 26];
-    let h = large();
-    written(
-        b"document 01, writing: N",
+    let h = header(LargeFileFlag::Large);
+    writing(
+        b"N",
         write::write_normal_file_size(h, 0, 1000, &numbers, &mut buf),
     );
-    reading(b"document 01, reading", &buf);
+    reading(b"document 01", &buf);
 }
 
 // A buffer one byte short is refused, and keeps every byte.
 fn one_byte_short() {
     let numbers = [100u32, 200u32];
     let mut buf = [0xEEu8; 23];
-    let h = header();
-    written(
-        b"document 01, writing: N into 23 bytes",
+    let h = header(LargeFileFlag::Normal);
+    writing(
+        b"N into 23 bytes",
         write::write_normal_file_size(h, 0, 1000, &numbers, &mut buf),
     );
     left(&buf);
 }
 
-// The pair filled in, and the rest written around it.
-fn fills(reserved: ReservedNak) {
-    let mut buf = [0u8; 26];
-    be::write_be(&mut buf, reserved.area, 8, PAIR);
-    written(
-        b"document 01, writing: N, reserved and finished",
-        reserved.finish(0, 1000, &mut buf),
-    );
-    left(&buf);
-}
-
-// N again: its room reserved, then filled.
+// N again: its room reserved, the pair filled in, the rest written around it.
 fn finishes_n() {
-    let result = ReservedNak::new(header(), 1, &[0u8; 26]);
+    let mut buf = [0u8; 26];
+    let h = header(LargeFileFlag::Normal);
+    let result = ReservedNak::new(h, 1, &buf);
     match result {
         ReserveResult::Refused(refusal) => {
             listing::print_refusal(refusal);
         }
-        ReserveResult::Reserved(reserved) => fills(reserved),
+        ReserveResult::Reserved(reserved) => {
+            be::write_be(&mut buf, reserved.area, 8, PAIR);
+            writing(
+                b"N, reserved and finished",
+                reserved.finish(0, 1000, &mut buf),
+            );
+            left(&buf);
+        }
     }
 }
 
 fn comparing(case: &[u8], res: CompareResult) {
-    print_case(case);
+    io::write_all(STDOUT_FILENO, b"document 01, comparing N: ");
+    io::write_all(STDOUT_FILENO, case);
+    io::write_all(STDOUT_FILENO, b" -> ");
     match res {
         CompareResult::Refused(refusal) => {
             listing::print_refusal(refusal);
@@ -300,38 +261,34 @@ fn comparing(case: &[u8], res: CompareResult) {
     }
 }
 
-fn compares(case: &[u8], numbers: &[u32]) {
+fn compares_n() {
     let n = N;
-    let h = header();
+    let numbers = [100u32, 200u32, 300u32, 400u32];
+    let h = header(LargeFileFlag::Normal);
     comparing(
-        case,
-        compare::compare_normal_file_size(&n, h, 0, 1000, numbers),
+        b"with itself",
+        compare::compare_normal_file_size(&n, h, 0, 1000, &numbers[..2]),
     );
-}
-
-fn compares_no_list() {
-    let n = N;
-    let h = header();
     comparing(
-        b"document 01, comparing N: with no list",
+        b"with another pair behind",
+        compare::compare_normal_file_size(&n, h, 0, 1000, &numbers),
+    );
+    comparing(
+        b"with no list",
         compare::compare_no_segment_requests(&n, h, 0, 1000),
     );
-}
-
-fn compares_n() {
-    compares(b"document 01, comparing N: with itself", &[100, 200]);
-    compares(
-        b"document 01, comparing N: with another pair behind",
-        &[100, 200, 300, 400],
-    );
-    compares_no_list();
-    compares(
-        b"document 01, comparing N: with three numbers",
-        &[100, 200, 300],
+    comparing(
+        b"with three numbers",
+        compare::compare_normal_file_size(&n, h, 0, 1000, &numbers[..3]),
     );
 }
 
-fn print_count(res: CountResult) {
+fn most(case: &[u8], size: usize, res: CountResult) {
+    io::write_all(STDOUT_FILENO, b"document 02, most requests, ");
+    io::write_all(STDOUT_FILENO, case);
+    io::write_all(STDOUT_FILENO, b", of ");
+    io::print_decimal(STDOUT_FILENO, size as u64);
+    io::write_all(STDOUT_FILENO, b" -> ");
     match res {
         CountResult::Refused(refusal) => {
             listing::print_refusal(refusal);
@@ -343,12 +300,6 @@ fn print_count(res: CountResult) {
     }
 }
 
-fn most(case: &[u8], size: usize, res: CountResult) {
-    print_number(case, size as u64);
-    io::write_all(STDOUT_FILENO, b" -> ");
-    print_count(res);
-}
-
 fn most_of_each(case: &[u8], h: PduHeader, sizes: &[usize]) {
     let mut i = 0;
     while i < sizes.len() {
@@ -358,85 +309,92 @@ fn most_of_each(case: &[u8], h: PduHeader, sizes: &[usize]) {
     }
 }
 
-// And of the longest PDU, 65,535 + h; of the size that misled the planner; of the largest that there is.
-fn most_up(case: &[u8], h: PduHeader, sizes: &[usize]) {
-    most_of_each(case, h, sizes);
+// The longest PDU, 65,535 + h; the size that misled the planner; the largest that there is.
+fn most_far(case: &[u8], h: PduHeader) {
     most_of_each(case, h, &[65542, 100000, 18446744073709551615]);
 }
 
 // h is 7. Beside the least packet and one pair more, and beside the packet of as many pairs as a NAK has and one pair more.
 fn most_normal() {
+    let h = header(LargeFileFlag::Normal);
     let sizes = [15, 16, 23, 24, 65535, 65536, 65543, 65544];
-    most_up(b"document 02, most requests, normal, of ", header(), &sizes);
+    most_of_each(b"normal", h, &sizes);
+    most_far(b"normal", h);
+}
+
+fn most_normal_summed() {
+    let h = summed(LargeFileFlag::Normal);
     let sizes = [17, 18, 25, 26, 65537, 65538, 65545, 65546];
-    most_up(
-        b"document 02, most requests, normal with CRC, of ",
-        summed(LargeFileFlag::Normal),
-        &sizes,
-    );
+    most_of_each(b"normal with CRC", h, &sizes);
+    most_far(b"normal with CRC", h);
 }
 
 fn most_large() {
+    let h = header(LargeFileFlag::Large);
     let sizes = [23, 24, 39, 40, 65527, 65528, 65543, 65544];
-    most_up(b"document 02, most requests, large, of ", large(), &sizes);
-    let sizes = [25, 26, 41, 42, 65529, 65530, 65545, 65546];
-    most_up(
-        b"document 02, most requests, large with CRC, of ",
-        summed(LargeFileFlag::Large),
-        &sizes,
-    );
+    most_of_each(b"large", h, &sizes);
+    most_far(b"large", h);
 }
 
-// N with the bit of the PDU type set: 21.
+fn most_large_summed() {
+    let h = summed(LargeFileFlag::Large);
+    let sizes = [25, 26, 41, 42, 65529, 65530, 65545, 65546];
+    most_of_each(b"large with CRC", h, &sizes);
+    most_far(b"large with CRC", h);
+}
+
+// N with the bit of the PDU type set: 21. With a checksum that bit shows as damage: 5.
 fn reads_file_data() {
     let mut n = N;
     n[0] = 0x38;
-    reading(b"document 02, reading", &n);
-}
-
-// With a checksum that bit shows as damage: 5.
-fn reads_summed_file_data() {
+    reading(b"document 02", &n);
+    let numbers = [100u32, 200u32];
     let mut buf = [0u8; 26];
     let h = summed(LargeFileFlag::Normal);
-    write::write_normal_file_size(h, 0, 1000, &[100, 200], &mut buf);
+    write::write_normal_file_size(h, 0, 1000, &numbers, &mut buf);
     buf[0] = 0x3A;
-    reading(b"document 02, reading", &buf);
-}
-
-fn finishes_file_data(header: PduHeader, buf: [u8; 3]) -> [u8; 3] {
-    let mut buf = buf;
-    let reserved = ReservedNak {
-        header,
-        count: 8191,
-        area: 16,
-        stop: 24,
-    };
-    written(
-        b"document 02, finishing: file data, 8,191 pairs",
-        reserved.finish(0, 1000, &mut buf),
-    );
-    buf
+    reading(b"document 02", &buf);
 }
 
 // 21 stands before 12 in writing, before 10 in finishing, before 15 in counting.
 fn writes_file_data() {
+    let numbers = [100u32, 200u32, 300u32];
     let mut buf = [0xEEu8; 3];
-    let h = header_of(PduType::FileData, CrcFlag::NoCrc, LargeFileFlag::Normal);
+    let h = PduHeader {
+        kind: PduType::FileData,
+        ..header(LargeFileFlag::Normal)
+    };
+    io::write_all(STDOUT_FILENO, b"document 02, writing: ");
     written(
-        b"document 02, writing: file data, three numbers",
-        write::write_normal_file_size(h, 0, 1000, &[100, 200, 300], &mut buf),
+        b"file data, three numbers",
+        write::write_normal_file_size(h, 0, 1000, &numbers, &mut buf),
     );
-    left(&finishes_file_data(h, buf));
-    most(
-        b"document 02, most requests, file data, of ",
-        3,
-        count::calculate_max_segment_requests(3, h),
+    let reserved = ReservedNak {
+        header: h,
+        count: 8191,
+        area: 16,
+        stop: 24,
+    };
+    io::write_all(STDOUT_FILENO, b"document 02, finishing: ");
+    written(
+        b"file data, 8,191 pairs",
+        reserved.finish(0, 1000, &mut buf),
     );
+    left(&buf);
+    most(b"file data", 3, count::calculate_max_segment_requests(3, h));
+}
+
+// What stands before a worked example.
+fn worked(example: &[u8], bytes: &[u8]) {
+    io::write_all(STDOUT_FILENO, example);
+    io::write_all(STDOUT_FILENO, b": ");
+    print_bytes(bytes);
+    io::write_all(STDOUT_FILENO, b"->\n");
 }
 
 fn eof_of(condition: u8, size: u64, fault: FaultLocation) -> Eof {
     Eof {
-        header: header(),
+        header: header(LargeFileFlag::Normal),
         condition,
         file_checksum: 0x01020304,
         size,
@@ -451,115 +409,90 @@ fn located(width: u8, id: u64) -> FaultLocation {
     })
 }
 
-fn reads_eof(document: &[u8], bytes: &[u8]) {
-    worked(document, bytes);
-    listing::eofs::list(bytes);
-}
-
-// Written by the tables of section 5.2.2, and read back; the bytes.
-fn writes_eof() -> [u8; 20] {
+// Written by the tables of section 5.2.2, read back, and with one byte changed: a reserved condition code, a fault location that E cuts.
+fn eofs() {
     let mut buf = [0xEEu8; 20];
+    io::write_all(STDOUT_FILENO, b"5.2.2, writing: ");
     let eof = eof_of(4, 1000, located(1, 5));
     written(
-        b"5.2.2, writing: filestore rejection at entity 5",
+        b"filestore rejection at entity 5",
         eof.write_to_slice(&mut buf),
     );
-    reads_eof(b"5.2.2, reading", &buf);
-    buf
-}
-
-// And with one byte changed: a reserved condition code, a fault location that E cuts.
-fn eofs() {
-    let mut buf = writes_eof();
-    let example: &[u8] = b"document 02, reading";
+    worked(b"5.2.2, reading", &buf);
+    listing::eofs::list(&buf);
     buf[8] = 0xC0;
-    reads_eof(example, &buf);
+    worked(b"document 02, reading", &buf);
+    listing::eofs::list(&buf);
     buf[8] = 0x40;
     buf[2] = 0x0C;
-    reads_eof(example, &buf);
-}
-
-// The buffer as the call leaves it, for the next one.
-fn refuses_eof(case: &[u8], size: u64, fault: FaultLocation, buf: [u8; 3]) -> [u8; 3] {
-    let mut buf = buf;
-    written(case, eof_of(0, size, fault).write_to_slice(&mut buf));
-    buf
+    worked(b"document 02, reading", &buf);
+    listing::eofs::list(&buf);
 }
 
 fn refused_eofs() {
-    let nowhere = FaultLocation::Nowhere;
-    let buf = refuses_eof(
-        b"document 02, writing: a file of 4,294,967,296 bytes",
-        4294967296,
-        nowhere,
-        [0xEE; 3],
+    let mut buf = [0xEEu8; 3];
+    let size = eof_of(0, 4294967296, FaultLocation::Nowhere);
+    let width = eof_of(0, 4294967295, located(3, 5));
+    let value = eof_of(0, 0, located(1, 256));
+    io::write_all(STDOUT_FILENO, b"document 02, writing: ");
+    written(
+        b"a file of 4,294,967,296 bytes",
+        size.write_to_slice(&mut buf),
     );
-    let buf = refuses_eof(
-        b"document 02, writing: a fault location of 3 bytes",
-        4294967295,
-        located(3, 5),
-        buf,
+    io::write_all(STDOUT_FILENO, b"document 02, writing: ");
+    written(
+        b"a fault location of 3 bytes",
+        width.write_to_slice(&mut buf),
     );
-    left(&refuses_eof(
-        b"document 02, writing: entity 256 in one byte",
-        0,
-        located(1, 256),
-        buf,
-    ));
+    io::write_all(STDOUT_FILENO, b"document 02, writing: ");
+    written(b"entity 256 in one byte", value.write_to_slice(&mut buf));
+    left(&buf);
 }
 
 fn ack_of(acked: u8, condition: u8, status: TransactionStatus) -> Ack {
     Ack {
-        header: header(),
+        header: header(LargeFileFlag::Normal),
         acked,
         condition,
         status,
     }
 }
 
-fn reads_ack(document: &[u8], bytes: &[u8]) {
-    worked(document, bytes);
-    listing::acks::list(bytes);
-}
-
-// Written by the tables of section 5.2.4, and read back; the bytes.
-fn writes_ack(case: &[u8], ack: Ack) -> [u8; 10] {
-    let mut buf = [0xEEu8; 10];
-    written(case, ack.write_to_slice(&mut buf));
-    reads_ack(b"5.2.4, reading", &buf);
-    buf
-}
-
-// Of an EOF towards the sender, of a Finished towards the receiver; and that with a directive that no ACK answers.
+// Written by the tables of section 5.2.4 and read back: of an EOF towards the sender, of a Finished towards the receiver.
 fn acks() {
-    writes_ack(
-        b"5.2.4, writing: of an EOF",
-        ack_of(4, 0, TransactionStatus::Active),
+    let mut buf = [0xEEu8; 10];
+    let eof = ack_of(4, 0, TransactionStatus::Active);
+    io::write_all(STDOUT_FILENO, b"5.2.4, writing: ");
+    written(b"of an EOF", eof.write_to_slice(&mut buf));
+    worked(b"5.2.4, reading", &buf);
+    listing::acks::list(&buf);
+    let finished = ack_of(5, 15, TransactionStatus::Terminated);
+    io::write_all(STDOUT_FILENO, b"5.2.4, writing: ");
+    written(
+        b"of a Finished, cancelled",
+        finished.write_to_slice(&mut buf),
     );
-    let mut buf = writes_ack(
-        b"5.2.4, writing: of a Finished, cancelled",
-        ack_of(5, 15, TransactionStatus::Terminated),
-    );
+    worked(b"5.2.4, reading", &buf);
+    listing::acks::list(&buf);
     buf[8] = 0x60;
-    reads_ack(b"document 02, reading", &buf);
+    worked(b"document 02, reading", &buf);
+    listing::acks::list(&buf);
 }
 
 fn main() {
-    catalogue_vectors();
-    annex_vectors();
-    long_vectors();
+    checksums();
     readings();
     normal_lists();
-    normal_scopes();
     one_byte_short();
     large_lists();
     writes_n();
     finishes_n();
     compares_n();
     most_normal();
+    most_normal_summed();
     most_large();
+    most_large_summed();
     reads_file_data();
-    reads_summed_file_data();
     writes_file_data();
     eofs();
     refused_eofs();

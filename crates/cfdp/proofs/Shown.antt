@@ -12,7 +12,7 @@ use Rattle.fields.specs.Choice.{if◌then◌else◌}
 use Rattle.fields.specs.declared.refusal.Refusal.{Refusal}
 use Rattle.fields.specs.declared.refusal.RefusalNumbers.{RefusalNumbers}
 use Rattle.fields.specs.Refusal.{paper, numbers_of}
-use Rattle.fields.specs.Answer.{Answer, accepted, short, refused, told, and_then}
+use Rattle.fields.specs.Answer.{Answer, accepted, short, refused, told}
 use Rattle.fields.proofs.OneToOne.{numbers_paper}
 use Rattle.fields.proofs.Judging.{told_cases}
 use Rattle.header.specs.declared.PduHeader.{PduHeader}
@@ -21,10 +21,8 @@ use Rattle.header.specs.Header.{header_length, pdu_length, data_end}
 use Rattle.eof.specs.declared.Eof.{Eof}
 use Rattle.ack.specs.declared.Ack.{Ack}
 use Rattle.ack.specs.Ack.{status_bits}
-use Rattle.nak.specs.declared.Nak.{Nak}
 use Rattle.nak.specs.declared.reserve.ReservedNak.{ReservedNak}
 use Rattle.cfdp.specs.Shown.{padded, answer_size, answer_numbers, shown, refusal_shown, header_numbers, read_header_numbers, reserved_numbers, fault_numbers, eof_numbers, ack_numbers}
-use Rattle.cfdp.specs.Within.{read_first}
 
 -- up to three numbers, and zeros behind them
 few : (ns : List ℕ) → length ns ≤ 3 → padded answer_size ns ≡ padded answer_size (get_or ns 0 0 ∷ get_or ns 1 0 ∷ get_or ns 2 0 ∷ [])
@@ -68,26 +66,6 @@ module _ {A : Type 0} (numbers : A → List ℕ) where
   unfolding shown
   accepted_shown a o out e p = p ∙ ap (shown numbers) e
 
-  -- a reading's refusal is shown in place of what another judgement shows
-  pub first_shown : (read : Answer Nak) (o : Answer A) (s : List ℕ) → s ≡ shown numbers o → read_first read s ≡ shown numbers (and_then read (λ _. o))
-  unfolding read_first shown
-  first_shown (accepted n) o s p = p
-  first_shown (short l n) o s p = refl
-  first_shown (refused ns) o s p = refl
-
-pub unread_shown : (r : Refusal) (read : Answer Nak) (s out : List ℕ) → told (paper r) ≡ read → out ≡ refusal_shown r → out ≡ read_first read s
-unfolding refusal_shown read_first shown
-unread_shown r read s out e p =
-    p
-    ∙ sym
-    (told_cases (λ (o : Answer Nak). read_first o s) (padded answer_size (paper r)) (paper r)
-    (λ one. sym (few (paper r) (paper_few r) ∙ ap (λ (k : ℕ). padded answer_size (k ∷ get_or (paper r) 1 0 ∷ get_or (paper r) 2 0 ∷ [])) one)) refl)
-    ∙ ap (λ (o : Answer Nak). read_first o s) e
-
-pub read_stays : (n : Nak) (read : Answer Nak) (s : List ℕ) → accepted n ≡ read → s ≡ read_first read s
-unfolding read_first
-read_stays n read s e = ap (λ (o : Answer Nak). read_first o s) e
-
 -- the header's numbers, bit by bit
 pub header_numbers_lem : (h : PduHeader) (rest : List ℕ) (t d m c f g s : ℕ) → t ≡ pdu_type_bit h.kind → d ≡ direction_bit h.direction
     → m ≡ mode_bit h.mode → c ≡ crc_bit h.crc
@@ -108,10 +86,12 @@ reserved_shown r n o out e l p =
     accepted_shown reserved_numbers r o out e
     (p ∙ ap (λ (k : ℕ). padded answer_size (0 ∷ (header_numbers r.header ++ (r.count ∷ r.area ∷ r.stop ∷ k ∷ [])))) l)
 
--- an ACK is shown with its status as a number, and E
-pub ack_numbers_lem : (a : Ack) (s n : ℕ) (out : List ℕ) → s ≡ status_bits a.status → n ≡ data_end a.header
-    → out ≡ padded answer_size (0 ∷ (header_numbers a.header ++ (a.acked ∷ a.condition ∷ s ∷ n ∷ 0 ∷ []))) → out ≡ padded answer_size (0 ∷ ack_numbers a)
-ack_numbers_lem a s n out ps pn p = p ∙ ap₂ (λ (i j : ℕ). padded answer_size (0 ∷ (header_numbers a.header ++ (a.acked ∷ a.condition ∷ i ∷ j ∷ [])))) ps pn
+-- an ACK that was read is shown with its status as a number, and E
+pub ack_shown : (a : Ack) (s n : ℕ) (o : Answer Ack) (out : List ℕ) → accepted a ≡ o → s ≡ status_bits a.status → n ≡ data_end a.header
+    → out ≡ padded answer_size (0 ∷ (header_numbers a.header ++ (a.acked ∷ a.condition ∷ s ∷ n ∷ 0 ∷ []))) → out ≡ shown ack_numbers o
+ack_shown a s n o out e ps pn p =
+    accepted_shown ack_numbers a o out e
+    (p ∙ ap₂ (λ (i j : ℕ). padded answer_size (0 ∷ (header_numbers a.header ++ (a.acked ∷ a.condition ∷ i ∷ j ∷ [])))) ps pn)
 
 -- an EOF's last two numbers are stored behind the others
 pub eof_numbers_lem : (e : Eof) (t w v n : ℕ) (b : List ℕ) → t ∷ w ∷ v ∷ [] ≡ fault_numbers e.fault → n ≡ data_end e.header

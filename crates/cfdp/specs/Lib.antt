@@ -7,4 +7,3 @@ pub mod Differing
 pub mod MetadataNumbers
 pub mod Standing
 pub mod Plans
-pub mod Within

@@ -7,10 +7,11 @@ ghost use Rattle.eof.specs.Writing.{writing_eof, eof_memory};
 ghost use Rattle.cfdp.specs.Given.{given_header, left_by, fault_from, eof_from};
 ghost use Rattle.cfdp.specs.Shown.{padded, answer_size, shown, fault_numbers, eof_numbers, written_numbers};
 
-use crate::{Answer, header_of, show_header, show_refusal, show_written, widths_differ};
+use crate::{Answer, header_from, show_header, show_refusal, show_written};
 use eof::fault::{EntityIdTlv, FaultLocation};
 use eof::{Eof, EofResult};
 use fields::EntityId;
+use header::HeaderResult;
 
 // A fault location as numbers: 1 where there is one, its width and its value; else zeros.
 #[derive(Clone, Copy)]
@@ -52,13 +53,14 @@ fn fault_from(there: bool, width: u8, value: u64) -> FaultLocation
 fn show_eof(eof: Eof, answer: &mut Answer)
     ensures { answer.new ≡ padded answer_size (0 ∷ eof_numbers eof) }
 {
-    let stop = eof.header.data_end() as u64;
+    let header = eof.header;
+    let stop = header.data_end() as u64;
     let condition = eof.condition as u64;
     let file_checksum = eof.file_checksum as u64;
     let found = eof.fault;
     let fault = fault_numbers(found);
     show_header(
-        eof.header,
+        header,
         condition,
         file_checksum,
         eof.size,
@@ -95,17 +97,19 @@ pub fn cfdp_eof_write(
     ensures answered { answer.new ≡ shown written_numbers (and_then (given_header shape.now ids.now) (λ h. writing_eof (eof_from h condition file_checksum file_size (fault_from fault fault_width fault_value)) (length buf.old))) }
     ensures stored { buf.new ≡ left_by (given_header shape.now ids.now) (λ h. eof_memory (eof_from h condition file_checksum file_size (fault_from fault fault_width fault_value)) buf.old) buf.old }
 {
-    if widths_differ(shape, answer) {
-        return;
+    let joined = header_from(shape, 0, ids);
+    match joined {
+        HeaderResult::Refused(refusal) => show_refusal(refusal, answer),
+        HeaderResult::Header(header) => {
+            let eof = Eof {
+                header,
+                condition,
+                file_checksum,
+                size: file_size,
+                fault: fault_from(fault, fault_width, fault_value),
+            };
+            let written = eof.write_to_slice(buf);
+            show_written(written, answer)
+        }
     }
-    let header = header_of(shape, 0, ids);
-    let eof = Eof {
-        header,
-        condition,
-        file_checksum,
-        size: file_size,
-        fault: fault_from(fault, fault_width, fault_value),
-    };
-    let written = eof.write_to_slice(buf);
-    show_written(written, answer)
 }

@@ -11,7 +11,7 @@ ghost use Rattle.header.specs.Writing.{writing_header, header_memory};
 ghost use Rattle.cfdp.specs.Given.{header_from, left_by};
 ghost use Rattle.cfdp.specs.Shown.{shown, header_numbers, one_number, read_header_numbers};
 
-use crate::{Answer, header_of, show_header, show_length, show_refusal, widths_differ};
+use crate::{Answer, header_from, show_header, show_length, show_refusal};
 use fields::crc;
 use header::{HeaderResult, PduHeader};
 
@@ -46,12 +46,14 @@ fn show_built(res: HeaderResult, answer: &mut Answer)
 pub fn cfdp_header_build(shape: &[u8; 10], data_length: u16, ids: &[u64; 3], answer: &mut Answer)
     ensures { answer.new ≡ shown header_numbers (and_then (header_from shape.now data_length ids.now) judging) }
 {
-    if widths_differ(shape, answer) {
-        return;
+    let joined = header_from(shape, data_length, ids);
+    match joined {
+        HeaderResult::Refused(refusal) => show_refusal(refusal, answer),
+        HeaderResult::Header(header) => {
+            let built = header.judged();
+            show_built(built, answer)
+        }
     }
-    let header = header_of(shape, data_length, ids);
-    let built = header.judged();
-    show_built(built, answer)
 }
 
 pub fn cfdp_header_write(
@@ -64,12 +66,14 @@ pub fn cfdp_header_write(
     ensures answered { answer.new ≡ shown one_number (and_then (header_from shape.now data_length ids.now) (λ h. writing_header h (length buf.old))) }
     ensures stored { buf.new ≡ left_by (header_from shape.now data_length ids.now) (λ h. header_memory h buf.old) buf.old }
 {
-    if widths_differ(shape, answer) {
-        return;
+    let joined = header_from(shape, data_length, ids);
+    match joined {
+        HeaderResult::Refused(refusal) => show_refusal(refusal, answer),
+        HeaderResult::Header(header) => {
+            let written = header.write_to_slice(buf);
+            show_length(written, answer)
+        }
     }
-    let header = header_of(shape, data_length, ids);
-    let written = header.write_to_slice(buf);
-    show_length(written, answer)
 }
 
 pub fn cfdp_header_verify(
@@ -81,10 +85,12 @@ pub fn cfdp_header_verify(
 )
     ensures { answer.new ≡ shown one_number (and_then (header_from shape.now data_length ids.now) (λ h. run (verifying h) bytes.now)) }
 {
-    if widths_differ(shape, answer) {
-        return;
+    let joined = header_from(shape, data_length, ids);
+    match joined {
+        HeaderResult::Refused(refusal) => show_refusal(refusal, answer),
+        HeaderResult::Header(header) => {
+            let verified = header.verify_length_and_checksum(bytes);
+            show_length(verified, answer)
+        }
     }
-    let header = header_of(shape, data_length, ids);
-    let verified = header.verify_length_and_checksum(bytes);
-    show_length(verified, answer)
 }

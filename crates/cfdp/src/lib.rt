@@ -2,20 +2,18 @@
 // numbers. Every value of every parameter has its answer. `include/cfdp.h` declares them all.
 #![tactic(auto)]
 
-ghost use Rattle.std.specs.Prelude.{◌≡◌, [], ◌∷◌, ◌++◌, ◌<◌};
-ghost use Rattle.header.specs.Answers.{length_answer};
+ghost use Rattle.std.specs.Prelude.{◌≡◌, [], ◌∷◌, ◌++◌};
+ghost use Rattle.header.specs.Answers.{header_answer, length_answer};
 ghost use Rattle.header.specs.Pdu.{write_answer};
-ghost use Rattle.cfdp.specs.Given.{is_on, record_from};
-ghost use Rattle.cfdp.specs.Within.{apart, apart_shown};
-ghost use Rattle.cfdp.specs.Shown.{padded, answer_size, shown, refusal_shown, header_numbers, one_number, nak_numbers, written_numbers};
+ghost use Rattle.cfdp.specs.Given.{header_from};
+ghost use Rattle.cfdp.specs.Shown.{padded, answer_size, shown, refusal_shown, header_numbers, one_number, written_numbers};
 
-use fields::{EntityId, Refusal, TransactionSeqNum, UnsignedByteField};
+use fields::{Refusal, TransactionSeqNum, UnsignedByteField};
 use header::pdu::WriteResult;
 use header::{
-    CrcFlag, Direction, LargeFileFlag, LengthResult, PduHeader, PduType, SegmentMetadataFlag,
-    SegmentationControl, TransmissionMode,
+    CrcFlag, Direction, HeaderResult, LargeFileFlag, LengthResult, PduHeader, PduType,
+    SegmentMetadataFlag, SegmentationControl, TransmissionMode,
 };
-use nak::Nak;
 
 pub mod acks;
 pub mod compare;
@@ -35,55 +33,35 @@ pub const ANSWER_LEN: usize = 24;
 
 pub type Answer = [u64; ANSWER_LEN];
 
-// Whether a flag of a shape is set: its byte is not 0.
-fn is_on(shape: &[u8; 10], at: usize) -> bool
-    requires { at < 10 }
-    ensures { result ≡ is_on shape.now at }
+// A header from its numbers: 13 where the two identifiers' widths differ, and nothing else of it is judged here.
+fn header_from(shape: &[u8; 10], length: u16, ids: &[u64; 3]) -> HeaderResult
+    ensures { header_answer result ≡ header_from shape.now length ids.now }
 {
-    shape[at] != 0
-}
-
-// A header from its numbers, with the source identifier's width for both.
-fn header_of(shape: &[u8; 10], length: u16, ids: &[u64; 3]) -> PduHeader
-    ensures { result ≡ record_from shape.now length ids.now }
-{
-    PduHeader {
-        kind: PduType::from_bit(is_on(shape, 0)),
-        direction: Direction::from_bit(is_on(shape, 1)),
-        mode: TransmissionMode::from_bit(is_on(shape, 2)),
-        crc: CrcFlag::from_bit(is_on(shape, 3)),
-        file: LargeFileFlag::from_bit(is_on(shape, 4)),
-        length,
-        control: SegmentationControl::from_bit(is_on(shape, 5)),
+    let source = UnsignedByteField {
         width: shape[7],
-        metadata: SegmentMetadataFlag::from_bit(is_on(shape, 6)),
-        source: EntityId(ids[0]),
-        sequence: TransactionSeqNum(UnsignedByteField {
-            width: shape[8],
-            value: ids[1],
-        }),
-        destination: EntityId(ids[2]),
-    }
-}
-
-// Whether the two identifiers' widths differ: 13, which is then shown. Nothing else of a header is judged here.
-fn widths_differ(shape: &[u8; 10], answer: &mut Answer) -> bool
-    ensures said { result ≡ apart shape.now }
-    ensures answered { answer.new ≡ apart_shown result shape.now answer.old }
-{
-    let source = shape[7];
-    let destination = shape[9];
-    if source == destination {
-        return false;
-    }
-    show_refusal(
-        Refusal::SourceDestIdLenMissmatch {
-            source,
-            destination,
-        },
-        answer,
-    );
-    true
+        value: ids[0],
+    };
+    let sequence = UnsignedByteField {
+        width: shape[8],
+        value: ids[1],
+    };
+    let destination = UnsignedByteField {
+        width: shape[9],
+        value: ids[2],
+    };
+    PduHeader::from_fields(
+        PduType::from_bit(shape[0] != 0),
+        Direction::from_bit(shape[1] != 0),
+        TransmissionMode::from_bit(shape[2] != 0),
+        CrcFlag::from_bit(shape[3] != 0),
+        LargeFileFlag::from_bit(shape[4] != 0),
+        length,
+        SegmentationControl::from_bit(shape[5] != 0),
+        SegmentMetadataFlag::from_bit(shape[6] != 0),
+        source,
+        TransactionSeqNum(sequence),
+        destination,
+    )
 }
 
 // Up to three numbers, and zeros behind them.
@@ -151,16 +129,6 @@ fn show_header(header: PduHeader, a: u64, b: u64, c: u64, d: u64, e: u64, answer
     ];
 }
 
-// A NAK that was read from bytes or from a stream.
-fn show_nak(nak: Nak, answer: &mut Answer)
-    ensures { answer.new ≡ padded answer_size (0 ∷ nak_numbers nak) }
-{
-    let area = nak.area as u64;
-    let stop = nak.stop as u64;
-    let count = nak.count as u64;
-    show_header(nak.header, nak.start, nak.end, area, stop, count, answer)
-}
-
 fn show_length(res: LengthResult, answer: &mut Answer)
     ensures { answer.new ≡ shown one_number (length_answer res) }
 {
@@ -176,8 +144,9 @@ fn show_written(res: WriteResult, answer: &mut Answer)
     match res {
         WriteResult::Refused(refusal) => show_refusal(refusal, answer),
         WriteResult::Written(written) => {
+            let header = written.header;
             let length = written.length as u64;
-            show_header(written.header, length, 0, 0, 0, 0, answer)
+            show_header(header, length, 0, 0, 0, 0, answer)
         }
     }
 }

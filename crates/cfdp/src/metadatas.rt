@@ -9,8 +9,9 @@ ghost use Rattle.cfdp.specs.Given.{given_header, left_by};
 ghost use Rattle.cfdp.specs.Shown.{padded, answer_size, shown, written_numbers};
 ghost use Rattle.cfdp.specs.MetadataNumbers.{metadata_numbers, option_shown, params_from};
 
-use crate::{Answer, header_of, show_few, show_header, show_refusal, show_written, widths_differ};
+use crate::{Answer, header_from, show_few, show_header, show_refusal, show_written};
 use fields::Refusal;
+use header::HeaderResult;
 use metadata::write::closure_bit;
 use metadata::{Metadata, MetadataParams, MetadataResult, parts};
 use tlv::walk::{FieldCursor, NextField};
@@ -19,19 +20,24 @@ use tlv::{Field, Form};
 fn show_metadata(metadata: Metadata, answer: &mut Answer)
     ensures { answer.new ≡ padded answer_size (0 ∷ metadata_numbers metadata) }
 {
+    let params = metadata.params;
+    let header = params.header;
+    let source = metadata.source;
+    let destination = metadata.destination;
+    let options = metadata.options;
     show_header(
-        metadata.params.header,
-        closure_bit(metadata.params.closure) as u64,
-        metadata.params.kind as u64,
-        metadata.params.size,
-        metadata.source.start as u64,
-        metadata.source.stop as u64,
+        header,
+        closure_bit(params.closure) as u64,
+        params.kind as u64,
+        params.size,
+        source.start as u64,
+        source.stop as u64,
         answer,
     );
-    answer[20] = metadata.destination.start as u64;
-    answer[21] = metadata.destination.stop as u64;
-    answer[22] = metadata.options.start as u64;
-    answer[23] = metadata.options.stop as u64;
+    answer[20] = destination.start as u64;
+    answer[21] = destination.stop as u64;
+    answer[22] = options.start as u64;
+    answer[23] = options.stop as u64;
 }
 
 pub fn cfdp_metadata_read(bytes: &[u8], answer: &mut Answer)
@@ -80,16 +86,18 @@ pub fn cfdp_metadata_write(
     ensures answered { answer.new ≡ shown written_numbers (and_then (given_header shape.now ids.now) (λ h. writing_metadata (params_from h closure checksum_type file_size) source.now destination.now options.now (length buf.old))) }
     ensures stored { buf.new ≡ left_by (given_header shape.now ids.now) (λ h. metadata_memory (params_from h closure checksum_type file_size) source.now destination.now options.now buf.old) buf.old }
 {
-    if widths_differ(shape, answer) {
-        return;
+    let joined = header_from(shape, 0, ids);
+    match joined {
+        HeaderResult::Refused(refusal) => show_refusal(refusal, answer),
+        HeaderResult::Header(header) => {
+            let params = MetadataParams {
+                header,
+                closure,
+                kind: checksum_type,
+                size: file_size,
+            };
+            let written = params.write_to_slice(source, destination, options, buf);
+            show_written(written, answer)
+        }
     }
-    let header = header_of(shape, 0, ids);
-    let params = MetadataParams {
-        header,
-        closure,
-        kind: checksum_type,
-        size: file_size,
-    };
-    let written = params.write_to_slice(source, destination, options, buf);
-    show_written(written, answer)
 }

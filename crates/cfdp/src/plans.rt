@@ -7,7 +7,8 @@ ghost use Rattle.cfdp.specs.Given.{given_header, left_by};
 ghost use Rattle.cfdp.specs.Shown.{shown, verdict_number};
 ghost use Rattle.cfdp.specs.Plans.{plan_numbers};
 
-use crate::{Answer, header_of, show_few, show_number, show_refusal, widths_differ};
+use crate::{Answer, header_from, show_few, show_number, show_refusal};
+use header::HeaderResult;
 use plan::checker::Checked;
 use plan::planner::Planned;
 use plan::{checker, planner};
@@ -48,12 +49,14 @@ pub fn cfdp_plan_check(
 )
     ensures { answer.new ≡ shown verdict_number (and_then (given_header shape.now ids.now) (λ h. checking_plan h packet received.now start end requests.now naks.now)) }
 {
-    if widths_differ(shape, answer) {
-        return;
+    let joined = header_from(shape, 0, ids);
+    match joined {
+        HeaderResult::Refused(refusal) => show_refusal(refusal, answer),
+        HeaderResult::Header(header) => {
+            let checked = checker::check_plan(header, packet, received, start, end, requests, naks);
+            show_checked(checked, answer)
+        }
     }
-    let header = header_of(shape, 0, ids);
-    let checked = checker::check_plan(header, packet, received, start, end, requests, naks);
-    show_checked(checked, answer)
 }
 
 pub fn cfdp_plan(
@@ -71,10 +74,12 @@ pub fn cfdp_plan(
     ensures requested { requests.new ≡ left_by (given_header shape.now ids.now) (λ h. requests_after (planning h packet received.now start end (length requests.old) (length naks.old)) requests.old) requests.old }
     ensures dealt { naks.new ≡ left_by (given_header shape.now ids.now) (λ h. naks_after (planning h packet received.now start end (length requests.old) (length naks.old)) naks.old) naks.old }
 {
-    if widths_differ(shape, answer) {
-        return;
+    let joined = header_from(shape, 0, ids);
+    match joined {
+        HeaderResult::Refused(refusal) => show_refusal(refusal, answer),
+        HeaderResult::Header(header) => {
+            let planned = planner::plan(header, packet, received, start, end, requests, naks);
+            show_planned(planned, answer)
+        }
     }
-    let header = header_of(shape, 0, ids);
-    let planned = planner::plan(header, packet, received, start, end, requests, naks);
-    show_planned(planned, answer)
 }

@@ -7,7 +7,7 @@ ghost use Rattle.nak.specs.Reading.{reading_nak};
 ghost use Rattle.cfdp.specs.Shown.{shown, nak_numbers};
 ghost use Rattle.cfdp.specs.Pairs.{is_pair, pair_at, copied, copied_into};
 
-use crate::{Answer, show_nak, show_refusal};
+use crate::{Answer, show_header, show_refusal};
 use header::LargeFileFlag;
 use nak::requests::{NextRequest, RequestCursor};
 use nak::{Nak, NakResult};
@@ -18,7 +18,13 @@ pub fn cfdp_nak_read(bytes: &[u8], answer: &mut Answer)
     let read = Nak::from_bytes(bytes);
     match read {
         NakResult::Refused(refusal) => show_refusal(refusal, answer),
-        NakResult::Nak(nak) => show_nak(nak, answer),
+        NakResult::Nak(nak) => {
+            let header = nak.header;
+            let area = nak.area as u64;
+            let stop = nak.stop as u64;
+            let count = nak.count as u64;
+            show_header(header, nak.start, nak.end, area, stop, count, answer)
+        }
     }
 }
 

@@ -3,7 +3,7 @@ ghost use Rattle.std.specs.Prelude.{◌≡◌};
 ghost use Rattle.receiver.specs.Receiving.{outcome_of};
 ghost use Rattle.cfdp.specs.Received.{outcome_shown, called};
 
-use crate::{Answer, show_few, show_nak, show_refusal};
+use crate::{Answer, show_few, show_header, show_refusal};
 use receiver::Outcome;
 
 // What a call gives, as numbers: 1 for more wanted, since no receiver refuses with it.
@@ -13,7 +13,13 @@ fn show_outcome(outcome: Outcome, answer: &mut Answer)
     match outcome {
         Outcome::More => show_few(1, 0, 0, answer),
         Outcome::Refused(refusal) => show_refusal(refusal, answer),
-        Outcome::Nak(nak) => show_nak(nak, answer),
+        Outcome::Nak(nak) => {
+            let header = nak.header;
+            let area = nak.area as u64;
+            let stop = nak.stop as u64;
+            let count = nak.count as u64;
+            show_header(header, nak.start, nak.end, area, stop, count, answer)
+        }
     }
 }
 

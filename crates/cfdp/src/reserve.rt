@@ -5,7 +5,8 @@ ghost use Rattle.nak.specs.Reserving.{reserve_answer, reserving, finishing, fini
 ghost use Rattle.cfdp.specs.Given.{given_header, reserved_from, left_by};
 ghost use Rattle.cfdp.specs.Shown.{shown, reserved_numbers, written_numbers};
 
-use crate::{Answer, header_of, show_header, show_refusal, show_written, widths_differ};
+use crate::{Answer, header_from, show_header, show_refusal, show_written};
+use header::HeaderResult;
 use nak::reserve::{ReserveResult, ReservedNak};
 
 fn show_reserved(res: ReserveResult, answer: &mut Answer)
@@ -14,11 +15,12 @@ fn show_reserved(res: ReserveResult, answer: &mut Answer)
     match res {
         ReserveResult::Refused(refusal) => show_refusal(refusal, answer),
         ReserveResult::Reserved(reserved) => {
+            let header = reserved.header;
             let count = reserved.count as u64;
             let area = reserved.area as u64;
             let stop = reserved.stop as u64;
-            let length = reserved.header.pdu_len() as u64;
-            show_header(reserved.header, count, area, stop, length, 0, answer)
+            let length = header.pdu_len() as u64;
+            show_header(header, count, area, stop, length, 0, answer)
         }
     }
 }
@@ -32,12 +34,14 @@ pub fn cfdp_nak_reserve(
 )
     ensures { answer.new ≡ shown reserved_numbers (and_then (given_header shape.now ids.now) (λ h. reserving h pairs (length buf.now))) }
 {
-    if widths_differ(shape, answer) {
-        return;
+    let joined = header_from(shape, 0, ids);
+    match joined {
+        HeaderResult::Refused(refusal) => show_refusal(refusal, answer),
+        HeaderResult::Header(header) => {
+            let result = ReservedNak::new(header, pairs, buf);
+            show_reserved(result, answer)
+        }
     }
-    let header = header_of(shape, 0, ids);
-    let result = ReservedNak::new(header, pairs, buf);
-    show_reserved(result, answer)
 }
 
 // What `cfdp_nak_reserve` was given is given again: where the area lies is worked out anew.
@@ -53,16 +57,18 @@ pub fn cfdp_nak_finish(
     ensures answered { answer.new ≡ shown written_numbers (and_then (given_header shape.now ids.now) (λ h. finishing (reserved_from h pairs) start end (length buf.old))) }
     ensures stored { buf.new ≡ left_by (given_header shape.now ids.now) (λ h. finished_memory (reserved_from h pairs) start end buf.old) buf.old }
 {
-    if widths_differ(shape, answer) {
-        return;
+    let joined = header_from(shape, 0, ids);
+    match joined {
+        HeaderResult::Refused(refusal) => show_refusal(refusal, answer),
+        HeaderResult::Header(header) => {
+            let reserved = ReservedNak {
+                header,
+                count: pairs,
+                area: 0,
+                stop: 0,
+            };
+            let finished = reserved.finish(start, end, buf);
+            show_written(finished, answer)
+        }
     }
-    let header = header_of(shape, 0, ids);
-    let reserved = ReservedNak {
-        header,
-        count: pairs,
-        area: 0,
-        stop: 0,
-    };
-    let finished = reserved.finish(start, end, buf);
-    show_written(finished, answer)
 }

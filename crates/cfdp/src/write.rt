@@ -6,8 +6,8 @@ ghost use Rattle.nak.specs.Writing.{writing_nak, nak_memory};
 ghost use Rattle.cfdp.specs.Given.{given_header, left_by};
 ghost use Rattle.cfdp.specs.Shown.{shown, one_number, written_numbers};
 
-use crate::{Answer, header_of, show_number, show_refusal, show_written, widths_differ};
-use header::LargeFileFlag;
+use crate::{Answer, header_from, show_number, show_refusal, show_written};
+use header::{HeaderResult, LargeFileFlag};
 use nak::count::CountResult;
 use nak::{count, write};
 
@@ -22,12 +22,14 @@ pub fn cfdp_nak_write(
     ensures answered { answer.new ≡ shown written_numbers (and_then (given_header shape.now ids.now) (λ h. writing_nak h.file h start end 0 (length buf.old))) }
     ensures stored { buf.new ≡ left_by (given_header shape.now ids.now) (λ h. nak_memory h.file h start end [] buf.old) buf.old }
 {
-    if widths_differ(shape, answer) {
-        return;
+    let joined = header_from(shape, 0, ids);
+    match joined {
+        HeaderResult::Refused(refusal) => show_refusal(refusal, answer),
+        HeaderResult::Header(header) => {
+            let written = write::write_no_segment_requests(header, start, end, buf);
+            show_written(written, answer)
+        }
     }
-    let header = header_of(shape, 0, ids);
-    let written = write::write_no_segment_requests(header, start, end, buf);
-    show_written(written, answer)
 }
 
 pub fn cfdp_nak_write_normal(
@@ -42,12 +44,14 @@ pub fn cfdp_nak_write_normal(
     ensures answered { answer.new ≡ shown written_numbers (and_then (given_header shape.now ids.now) (λ h. writing_nak LargeFileFlag.Normal h start end (length numbers.now) (length buf.old))) }
     ensures stored { buf.new ≡ left_by (given_header shape.now ids.now) (λ h. nak_memory LargeFileFlag.Normal h start end numbers.now buf.old) buf.old }
 {
-    if widths_differ(shape, answer) {
-        return;
+    let joined = header_from(shape, 0, ids);
+    match joined {
+        HeaderResult::Refused(refusal) => show_refusal(refusal, answer),
+        HeaderResult::Header(header) => {
+            let written = write::write_normal_file_size(header, start, end, numbers, buf);
+            show_written(written, answer)
+        }
     }
-    let header = header_of(shape, 0, ids);
-    let written = write::write_normal_file_size(header, start, end, numbers, buf);
-    show_written(written, answer)
 }
 
 pub fn cfdp_nak_write_large(
@@ -62,12 +66,14 @@ pub fn cfdp_nak_write_large(
     ensures answered { answer.new ≡ shown written_numbers (and_then (given_header shape.now ids.now) (λ h. writing_nak LargeFileFlag.Large h start end (length numbers.now) (length buf.old))) }
     ensures stored { buf.new ≡ left_by (given_header shape.now ids.now) (λ h. nak_memory LargeFileFlag.Large h start end numbers.now buf.old) buf.old }
 {
-    if widths_differ(shape, answer) {
-        return;
+    let joined = header_from(shape, 0, ids);
+    match joined {
+        HeaderResult::Refused(refusal) => show_refusal(refusal, answer),
+        HeaderResult::Header(header) => {
+            let written = write::write_large_file_size(header, start, end, numbers, buf);
+            show_written(written, answer)
+        }
     }
-    let header = header_of(shape, 0, ids);
-    let written = write::write_large_file_size(header, start, end, numbers, buf);
-    show_written(written, answer)
 }
 
 fn show_count(res: CountResult, answer: &mut Answer)
@@ -82,10 +88,12 @@ fn show_count(res: CountResult, answer: &mut Answer)
 pub fn cfdp_nak_most(shape: &[u8; 10], ids: &[u64; 3], packet: usize, answer: &mut Answer)
     ensures { answer.new ≡ shown one_number (and_then (given_header shape.now ids.now) (λ h. most_requests h packet)) }
 {
-    if widths_differ(shape, answer) {
-        return;
+    let joined = header_from(shape, 0, ids);
+    match joined {
+        HeaderResult::Refused(refusal) => show_refusal(refusal, answer),
+        HeaderResult::Header(header) => {
+            let most = count::calculate_max_segment_requests(packet, header);
+            show_count(most, answer)
+        }
     }
-    let header = header_of(shape, 0, ids);
-    let most = count::calculate_max_segment_requests(packet, header);
-    show_count(most, answer)
 }

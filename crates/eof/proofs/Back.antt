@@ -1,15 +1,14 @@
 -- The data of an EOF that was written reads back, field by field.
 -- Assumes nothing.
 use Prim.Native.Nat.{ℕ, ◌+◌, ◌*◌, ◌/◌, ◌^◌, ◌≤◌, ◌<◌}
-use mathlib.Core.Path.{◌≡◌, refl, sym, ap, ◌∙◌}
-use mathlib.Core.Bool.{false}
+use mathlib.Core.Path.{◌≡◌, refl, ap, ◌∙◌}
 use mathlib.Core.List.{List, [], ◌∷◌, ◌++◌, append_assoc}
 use native.Mathlib.Omega.{arith}
-use lib.ListN.{length, get_or, drop, length-append}
+use lib.ListN.{length, get_or, length-append}
 use lib.Seq.{drop_at}
 use borrow.Author.Tests.{le-ltb}
 use Rattle.fields.specs.BigEndian.{be_bytes, number_at}
-use Rattle.fields.specs.Answer.{accepted, first_of}
+use Rattle.fields.specs.Answer.{accepted}
 use Rattle.fields.specs.Staged.{run}
 use Rattle.fields.proofs.BigEndian.{be_length, number_back}
 use Rattle.fields.proofs.Judging.{Passed, all_passed}

@@ -2,7 +2,6 @@
 -- Assumes nothing.
 use Prim.Native.Nat.{ℕ, suc, ◌+◌, ◌-◌, ◌*◌, ◌^◌, ◌≤◌, ◌<◌}
 use mathlib.Core.Path.{◌≡◌, refl, sym, ap, ap₂, ◌∙◌}
-use mathlib.Core.Bool.{true}
 use mathlib.Core.List.{List, [], ◌∷◌, ◌++◌}
 use native.Mathlib.Omega.{arith}
 use lib.ListN.{length, take, drop, set, length-append, length-drop}
@@ -27,7 +26,7 @@ use Rattle.header.proofs.Directives.{OwnRead, refused_own, read_own}
 use Rattle.eof.specs.declared.Eof.{Eof}
 use Rattle.eof.specs.declared.fault.FaultLocation.{FaultLocation}
 use Rattle.eof.specs.Fault.{not_aFault, fault_of, locating, fault_bytes, fault_length, fault_tests}
-use Rattle.eof.specs.Eof.{least_size, condition_in, after_size, eof_in}
+use Rattle.eof.specs.Eof.{condition_in, after_size, eof_in}
 use Rattle.eof.specs.Reading.{read_tests, reading_eof}
 use Rattle.eof.specs.Writing.{eof_data, eof_size, eof_length, own_tests}
 use Rattle.eof.proofs.Faults.{fault_size}

@@ -1,8 +1,8 @@
 -- The fault location: found in its bytes at each exit, judged, stored, and read back.
 -- Assumes nothing.
-use Prim.Native.Nat.{ℕ, ◌+◌, ◌-◌, ◌^◌, ◌≤◌, ◌<◌}
+use Prim.Native.Nat.{ℕ, ◌+◌, ◌-◌, ◌≤◌, ◌<◌}
 use mathlib.Core.Path.{◌≡◌, refl, sym, ap, ◌∙◌}
-use mathlib.Core.Bool.{true, false, not, ◌||◌}
+use mathlib.Core.Bool.{true, false}
 use mathlib.Core.List.{List, [], ◌∷◌}
 use native.Mathlib.Omega.{arith}
 use lib.Dec.{lit<}
@@ -20,7 +20,7 @@ use Rattle.tlv.specs.declared.Field.{Field}
 use Rattle.tlv.specs.declared.Form.TheVariants.{Tlv}
 use Rattle.tlv.specs.declared.read.OnlyField.{OnlyField}
 use Rattle.tlv.specs.declared.read.OnlyField.TheVariants.{Only, Other}
-use Rattle.tlv.specs.Form.{head_bytes, field_bytes}
+use Rattle.tlv.specs.Form.{field_bytes}
 use Rattle.tlv.specs.Reading.{only_field}
 use Rattle.tlv.specs.Writing.{number_put}
 use Rattle.tlv.proofs.Reading.{is_only, is_field, field_inside, field_size}

@@ -1,5 +1,5 @@
 -- The fault location of an EOF (CCSDS 727.0-B-5, 5.2.2): nothing, or one entity identifier field: type 6, a length, that many bytes of identifier.
-use Rattle.std.specs.Prelude.{ℕ, ◌+◌, ◌-◌, Bool, ◌||◌, not, List, [], ◌∷◌, eqb, length}
+use Rattle.std.specs.Prelude.{ℕ, ◌+◌, ◌-◌, ◌||◌, not, List, [], ◌∷◌, eqb, length}
 use Rattle.fields.specs.Choice.{if◌then◌else◌}
 use Rattle.fields.specs.Width.{is_width}
 use Rattle.fields.specs.BigEndian.{be_bytes, number_at}

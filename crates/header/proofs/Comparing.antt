@@ -11,7 +11,7 @@ use Rattle.header.specs.Flags.{pdu_type_bit, pdu_type_if, direction_bit, directi
 use Rattle.header.specs.Header.{first_byte}
 use Rattle.header.specs.Comparing.{same_flags, same_header}
 use Rattle.header.specs.Within.{flag_bits}
-use Rattle.header.specs.Demands.{SameFields, SameHeaderShares}
+use Rattle.header.specs.Demands.{SameHeaderShares}
 use Rattle.header.proofs.FlagBits as bits
 
 -- two numbers with a bit behind each are the same where the numbers are and the bits are

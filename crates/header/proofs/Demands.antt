@@ -1,6 +1,6 @@
 -- The statements of specs/Demands, proved.
 -- Assumes nothing.
-use Prim.Native.Nat.{ℕ, ◌+◌, ◌^◌, ◌<◌}
+use Prim.Native.Nat.{ℕ, ◌^◌, ◌<◌}
 use mathlib.Core.Path.{◌≡◌, refl, sym, ap, ◌∙◌}
 use mathlib.Core.Bool.{Bool, true, false}
 use mathlib.Core.List.{List, [], ◌∷◌, ◌++◌}
@@ -14,12 +14,11 @@ use Rattle.fields.specs.Choice.{if◌then◌else◌}
 use Rattle.fields.specs.Width.{is_width}
 use Rattle.fields.specs.BigEndian.{Bytes}
 use Rattle.fields.specs.Answer.{Answer, accepted, refused, first_of, leaves}
-use Rattle.fields.specs.Staged.{accept, run}
-use Rattle.fields.specs.Demand3.{AtMost}
+use Rattle.fields.specs.Staged.{run}
 use Rattle.fields.proofs.Width.{lt_fits}
 use Rattle.fields.proofs.BigEndian.{bytes_take, number_lt}
 use Rattle.fields.proofs.Judging.{Passed, NoneSays, said_behind}
-use Rattle.fields.proofs.Staged.{passed_all, at_most_bind, demand3}
+use Rattle.fields.proofs.Staged.{passed_all, demand3}
 use Rattle.fields.proofs.OneToOne.{answer_back, told_back, one_to_one}
 use Rattle.header.specs.declared.PduHeader.{PduHeader}
 use Rattle.header.specs.declared.HeaderResult.{HeaderResult}
@@ -34,7 +33,7 @@ use Rattle.header.specs.declared.pdu.WriteResult.{WriteResult}
 use Rattle.header.specs.declared.pdu.WriteResult.TheVariants.{Written, Refused as NotWritten}
 use Rattle.header.specs.Pdu.{write_answer}
 use Rattle.header.specs.Answers.{header_answer, length_answer, judged_answer, directive_answer}
-use Rattle.header.specs.Header.{header_length, data_end, header_bytes}
+use Rattle.header.specs.Header.{header_length, header_bytes}
 use Rattle.header.specs.Judging.{record_tests, judging}
 use Rattle.header.specs.Reading.{entity_width_in, sequence_width_in, header_length_in, header_in, reading_header}
 use Rattle.header.specs.Directive.{reading_own}

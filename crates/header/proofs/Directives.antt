@@ -7,7 +7,6 @@ use native.Mathlib.Omega.{arith}
 use lib.ListN.{length, get_or, take, drop, length-drop, take-append-drop}
 use lib.Seq.{get_or-take, length-take-le, take-append-le, drop-append-le}
 use borrow.Author.Tests.{lt-ltb, le-ltb, ltb-false}
-use Rattle.fields.specs.Choice.{if◌then◌else◌}
 use Rattle.fields.specs.Answer.{Answer, accepted, short, refused, told, and_then, Test, first_of, all_of}
 use Rattle.fields.specs.Staged.{Staged, accept, run, ◌>>=◌, ◌>>◌, tests}
 use Rattle.fields.specs.Demand3.{AtMost, Demand3}

@@ -2,7 +2,6 @@
 -- Assumes nothing.
 use Prim.Native.Nat.{ℕ, ◌+◌, ◌-◌, ◌≤◌, ◌<◌}
 use mathlib.Core.Path.{◌≡◌, refl, sym, ◌∙◌}
-use mathlib.Core.Bool.{Bool, true, false}
 use mathlib.Core.List.{List, [], ◌∷◌}
 use native.Mathlib.Omega.{arith}
 use native.Mathlib.Nat.{le_of_eq}
@@ -11,9 +10,8 @@ use lib.ListN.{length, get_or, take, drop}
 use lib.Seq.{get_or-take, length-take-le}
 use borrow.Author.Tests.{lt-ltb, le-ltb, eq-eqb, ne_eqb}
 use Rattle.fields.specs.declared.field.UnsignedByteField.{UnsignedByteField}
-use Rattle.fields.specs.Width.{is_width}
 use Rattle.fields.specs.BigEndian.{number_at, be_at}
-use Rattle.fields.specs.Answer.{Answer, accepted, told, all_of}
+use Rattle.fields.specs.Answer.{accepted, told, all_of}
 use Rattle.fields.specs.Staged.{Staged, accept, ◌>>=◌, ◌>>◌, bytes, tests, run}
 use Rattle.fields.specs.Demand3.{AtMost}
 use Rattle.fields.proofs.Judging.{Passed, told_is_refused, told_is_short}

@@ -1,5 +1,5 @@
 -- Judging a header record, and building one: the rows 13, 3, 4 and 14 of document 01's table.
-use Rattle.std.specs.Prelude.{ℕ, ◌^◌, ◌≤◌, ◌<◌, ◌≡◌, not, List, [], ◌∷◌, eqb}
+use Rattle.std.specs.Prelude.{ℕ, ◌^◌, ◌≤◌, ◌<◌, not, List, [], ◌∷◌, eqb}
 use Rattle.fields.specs.declared.field.UnsignedByteField.{UnsignedByteField}
 use Rattle.fields.specs.declared.field.EntityId.{EntityId}
 use Rattle.fields.specs.Width.{is_width, fits_field}

@@ -1,5 +1,5 @@
 -- Verifying the length and the checksum of a PDU by its header, and the checksum that a writer stores.
-use Rattle.std.specs.Prelude.{ℕ, ◌-◌, Bool, ◌&&◌, not, List, [], ◌∷◌, eqb, take}
+use Rattle.std.specs.Prelude.{ℕ, ◌-◌, ◌&&◌, not, List, [], ◌∷◌, eqb, take}
 use Rattle.fields.specs.BigEndian.{number_at, be_bytes, be_put}
 use Rattle.fields.specs.Checksum.{checksum_of}
 use Rattle.fields.specs.Answer.{Test, when}

@@ -9,7 +9,7 @@ use lib.Dec.{eqb}
 use lib.ListN.{length, get_or, take, drop, length-append, length-drop}
 use lib.Seq.{drop_at, take_all}
 use borrow.Author.Tests.{le-ltb}
-use Rattle.fields.specs.BigEndian.{be_bytes, number_at}
+use Rattle.fields.specs.BigEndian.{number_at}
 use Rattle.fields.specs.Answer.{accepted}
 use Rattle.fields.specs.Staged.{run}
 use Rattle.fields.proofs.BigEndian.{number_back}
@@ -17,19 +17,18 @@ use Rattle.fields.proofs.Judging.{Passed, all_passed}
 use Rattle.header.specs.declared.PduHeader.{PduHeader}
 use Rattle.header.specs.declared.flags.LargeFileFlag.{LargeFileFlag}
 use Rattle.header.specs.Flags.{crc_bit}
-use Rattle.header.specs.Header.{header_length, data_end, pdu_length}
+use Rattle.header.specs.Header.{header_length, data_end}
 use Rattle.header.specs.Size.{size_width}
 use Rattle.header.specs.Pdu.{directive_tests, pdu_over}
 use Rattle.header.proofs.Sizes.{size_low}
 use Rattle.header.proofs.Verifying.{pdu_sum, end_sum}
 use Rattle.header.proofs.Codes.{known_range}
 use Rattle.header.proofs.PdusBack.{reads_content, over_length, content_there}
-use Rattle.tlv.specs.declared.Field.{Field}
 use Rattle.tlv.specs.declared.Form.TheVariants.{Lv, Tlv}
 use Rattle.tlv.specs.declared.walk.FirstCut.{FirstCut}
 use Rattle.tlv.specs.declared.walk.FirstCut.TheVariants.{Nothing}
 use Rattle.tlv.specs.Form.{field_bytes}
-use Rattle.tlv.specs.Reading.{stop_at, is_whole, value_of}
+use Rattle.tlv.specs.Reading.{stop_at, is_whole}
 use Rattle.tlv.specs.Walking.{first_cut}
 use Rattle.tlv.specs.Parts.{further_on}
 use Rattle.tlv.specs.RoundTrip.{placed}
@@ -38,13 +37,12 @@ use Rattle.tlv.proofs.Writing.{field_length}
 use Rattle.tlv.proofs.Parts.{part_shows}
 use Rattle.tlv.proofs.RoundTrip.{field_reads_back}
 use Rattle.metadata.specs.declared.MetadataParams.{MetadataParams}
-use Rattle.metadata.specs.declared.Part.{Part}
 use Rattle.metadata.specs.Metadata.{names_at, is_type, closure_in, type_in, names_in, metadata_in, part_of}
 use Rattle.metadata.specs.Reading.{option_cut, name_tests, read_tests, reading_metadata}
-use Rattle.metadata.specs.Writing.{closure_bit, fixed_data, lent_data, metadata_data, metadata_length, filled, fixed_tests, own_tests}
+use Rattle.metadata.specs.Writing.{closure_bit, fixed_data, lent_data, metadata_data, filled, fixed_tests, own_tests}
 use Rattle.metadata.specs.Demands.{Same}
 use Rattle.metadata.proofs.Names.{is_all, stop_is}
-use Rattle.metadata.proofs.Data.{fixed_good, fixed_passed, lent_passed, lent_good, length_small, fixed_size, lent_size, length_is}
+use Rattle.metadata.proofs.Data.{fixed_good, fixed_passed, lent_passed, lent_good, length_small, fixed_size, length_is}
 use Rattle.metadata.proofs.Shown.{part_in}
 
 -- ---- a name

@@ -2,14 +2,14 @@
 -- Assumes nothing.
 use Prim.Native.Nat.{ℕ, suc, ◌+◌, ◌-◌, ◌*◌, ◌^◌, ◌≤◌, ◌<◌}
 use mathlib.Core.Path.{◌≡◌, refl, sym, ap, ap₂, ◌∙◌}
-use mathlib.Core.Bool.{Bool, true, false}
+use mathlib.Core.Bool.{Bool, false}
 use mathlib.Core.List.{List, [], ◌∷◌, ◌++◌, append_assoc}
 use native.Mathlib.Nat.{zero-add}
 use native.Mathlib.Omega.{arith}
 use lib.ListN.{length, take, drop, set, length-append}
 use lib.Seq.{sets, length-sets}
 use borrow.Author.Tests.{ltb-false, lt-ltb, le-ltb, not-false}
-use Rattle.fields.specs.BigEndian.{be_bytes, be_at, be_put}
+use Rattle.fields.specs.BigEndian.{be_at, be_put}
 use Rattle.fields.specs.Answer.{Answer, accepted, refused, told, Test, first_of, all_of}
 use Rattle.fields.specs.Staged.{run}
 use Rattle.fields.proofs.BigEndian.{be_length, put_behind, sets_append}
@@ -35,7 +35,7 @@ use Rattle.metadata.specs.declared.Metadata.{Metadata}
 use Rattle.metadata.specs.declared.read.Names.{Names}
 use Rattle.metadata.specs.Metadata.{names_at, type_tests, closure_in, type_in, names_in, metadata_in}
 use Rattle.metadata.specs.Reading.{option_cut, name_tests, read_tests, reading_metadata}
-use Rattle.metadata.specs.Writing.{closure_bit, fixed_data, lent_data, metadata_data, metadata_length, fixed_tests, name_too_long, lent_tests, data_too_large, own_tests}
+use Rattle.metadata.specs.Writing.{closure_bit, fixed_data, lent_data, metadata_data, metadata_length, fixed_tests, lent_tests, data_too_large, own_tests}
 use Rattle.metadata.proofs.Types.{type_small}
 
 -- ---- reading: E is tested, then the checksum type, then names and options

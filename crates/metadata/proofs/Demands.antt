@@ -1,7 +1,7 @@
 -- The statements of specs/Demands, proved.
 -- Assumes nothing.
-use mathlib.Core.Path.{◌≡◌, refl, sym, ap, ◌∙◌}
-use mathlib.Core.List.{List, ◌++◌}
+use mathlib.Core.Path.{◌≡◌, refl, ap, ◌∙◌}
+use mathlib.Core.List.{◌++◌}
 use lib.ListN.{length, drop}
 use Rattle.fields.specs.Staged.{run}
 use Rattle.fields.proofs.OneToOne.{answer_back, told_back, one_to_one}
@@ -15,7 +15,7 @@ use Rattle.metadata.specs.declared.MetadataResult.TheVariants.{Metadata as Read,
 use Rattle.metadata.specs.Metadata.{metadata_in}
 use Rattle.metadata.specs.Reading.{metadata_answer, read_tests, reading_metadata}
 use Rattle.metadata.specs.Writing.{metadata_data, filled, own_tests, writing_metadata, metadata_memory}
-use Rattle.metadata.specs.Demands.{Same, WrittenReadsBack, CodeReadsBack, MetadataDemand3, MetadataCodeDemand3, OneMetadataResult}
+use Rattle.metadata.specs.Demands.{WrittenReadsBack, CodeReadsBack, MetadataDemand3, MetadataCodeDemand3, OneMetadataResult}
 use Rattle.metadata.proofs.Back.{reads_back}
 
 back : (r : MetadataResult) → answer_back Read Refused (metadata_answer r) ≡ r

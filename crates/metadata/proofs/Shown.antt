@@ -4,12 +4,12 @@ use Prim.Native.Nat.{ℕ, ◌+◌, ◌-◌, ◌≤◌, ◌<◌}
 use mathlib.Core.Path.{◌≡◌, refl, sym, ap, ap₂, ◌∙◌, subst}
 use mathlib.Core.Bool.{true, false, not}
 use mathlib.Core.Logic.{⊎_elim}
-use mathlib.Core.List.{List, [], ◌∷◌}
+use mathlib.Core.List.{List}
 use native.Mathlib.Omega.{arith}
 use lib.ListN.{length, take, drop, length-drop}
 use lib.Seq.{drop-drop, take_all}
 use Rattle.fields.specs.BigEndian.{Bytes}
-use Rattle.fields.specs.Answer.{accepted, first_of}
+use Rattle.fields.specs.Answer.{accepted}
 use Rattle.fields.specs.Staged.{run}
 use Rattle.fields.proofs.BigEndian.{part_take, bytes_take, bytes_drop}
 use Rattle.fields.proofs.Judging.{Passed, passed}
@@ -23,7 +23,7 @@ use Rattle.tlv.specs.declared.Form.TheVariants.{Lv, Tlv}
 use Rattle.tlv.specs.declared.walk.FirstCut.{FirstCut}
 use Rattle.tlv.specs.declared.walk.FirstCut.TheVariants.{At, Nothing}
 use Rattle.tlv.specs.Reading.{stop_at, is_whole}
-use Rattle.tlv.specs.Walking.{fields_of, first_cut}
+use Rattle.tlv.specs.Walking.{first_cut}
 use Rattle.tlv.specs.Parts.{further_on}
 use Rattle.tlv.proofs.Reading.{within, whole?, not_whole}
 use Rattle.tlv.proofs.Parts.{part_shows}

@@ -1,5 +1,5 @@
 -- Worked examples, by hand from section 5.2.5 and document 02: what is given, and the numbers that it gives.
-use Rattle.std.specs.Prelude.{ℕ, Bool, true, false, List, [], ◌∷◌, ◌++◌, take, set, replicate}
+use Rattle.std.specs.Prelude.{ℕ, true, false, List, [], ◌∷◌, ◌++◌, take, set, replicate}
 use Rattle.fields.specs.Answer.{Answer, accepted, short, refused}
 use Rattle.fields.specs.Staged.{run}
 use Rattle.header.specs.declared.PduHeader.{PduHeader}

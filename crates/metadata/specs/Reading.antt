@@ -5,7 +5,7 @@ use Rattle.fields.specs.Refusal.{paper}
 use Rattle.fields.specs.Staged.{Staged, accept, ◌>>=◌, ◌>>◌, tests}
 use Rattle.header.specs.declared.PduHeader.{PduHeader}
 use Rattle.header.specs.Header.{header_length, data_end}
-use Rattle.header.specs.Directive.{data_short, PduRead, reading_directive}
+use Rattle.header.specs.Directive.{data_short, reading_directive}
 use Rattle.tlv.specs.declared.Form.TheVariants.{Lv, Tlv}
 use Rattle.tlv.specs.declared.walk.FirstCut.{FirstCut}
 use Rattle.tlv.specs.declared.walk.FirstCut.TheVariants.{At, Nothing}
@@ -17,7 +17,7 @@ use Rattle.metadata.specs.declared.MetadataResult.TheVariants.{Metadata as Read,
 use Rattle.metadata.specs.declared.read.Names.{Names}
 use Rattle.metadata.specs.declared.read.NamesResult.{NamesResult}
 use Rattle.metadata.specs.declared.read.NamesResult.TheVariants.{Names as Found, Refused as NoNames}
-use Rattle.metadata.specs.Metadata.{metadata_code, names_at, type_tests, type_in, names_in, metadata_in}
+use Rattle.metadata.specs.Metadata.{metadata_code, names_at, type_tests, type_in, metadata_in}
 
 abbrev pub names_answer : NamesResult → Answer Names
 names_answer (Found n) = accepted n

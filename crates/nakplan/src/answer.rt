@@ -1,10 +1,8 @@
 // What the task gives: a plan, or what the check says of the one that was given.
-ghost use Rattle.std.specs.Prelude.{◌<◌};
 ghost use Rattle.io.specs.Counts.{IsPrefixLen};
 
 use crate::STDOUT_FILENO;
-use crate::task::{MOST_NAKS, MOST_RANGES, NAKS, REQUESTS, STORE_LEN, Task};
-use crate::words::MOST_NUMBERS;
+use crate::task::Task;
 use fields::{TransactionSeqNum, UnsignedByteField};
 use header::{
     CrcFlag, Direction, HeaderResult, LargeFileFlag, PduHeader, PduType, SegmentMetadataFlag,
@@ -71,49 +69,28 @@ fn within(count: usize, numbers: &[u64]) -> usize
     }
 }
 
-// So many of the numbers between two places of the store.
-fn stored(store: &[u64], start: usize, stop: usize, count: usize) -> &[u64] {
-    if store.len() < stop {
-        return &store[..0];
-    }
-    if stop < start {
-        return &store[..0];
-    }
-    let numbers = &store[start..stop];
-    let n = within(count, numbers);
-    &numbers[..n]
-}
-
-fn is_set(numbers: &[u64; MOST_NUMBERS], at: usize) -> bool
-    requires { at < 14 }
-{
-    numbers[at] != 0
-}
-
-// A field of a header from its width and the value behind it.
-fn field(numbers: &[u64; MOST_NUMBERS], at: usize) -> UnsignedByteField
-    requires { at < 13 }
-{
+// A field of a header from its width and value.
+fn field(width: u64, value: u64) -> UnsignedByteField {
     UnsignedByteField {
-        width: (numbers[at] % 256) as u8,
-        value: numbers[at + 1],
+        width: (width % 256) as u8,
+        value,
     }
 }
 
 // The header of its 14 numbers, which were seen to be within what its parts hold; 13 where the identifiers' widths differ.
-fn header_of(numbers: &[u64; MOST_NUMBERS]) -> HeaderResult {
+fn header_of(numbers: &[u64; 14]) -> HeaderResult {
     PduHeader::from_fields(
-        PduType::from_bit(is_set(numbers, 0)),
-        Direction::from_bit(is_set(numbers, 1)),
-        TransmissionMode::from_bit(is_set(numbers, 2)),
-        CrcFlag::from_bit(is_set(numbers, 3)),
-        LargeFileFlag::from_bit(is_set(numbers, 4)),
+        PduType::from_bit(numbers[0] != 0),
+        Direction::from_bit(numbers[1] != 0),
+        TransmissionMode::from_bit(numbers[2] != 0),
+        CrcFlag::from_bit(numbers[3] != 0),
+        LargeFileFlag::from_bit(numbers[4] != 0),
         (numbers[7] % 65536) as u16,
-        SegmentationControl::from_bit(is_set(numbers, 5)),
-        SegmentMetadataFlag::from_bit(is_set(numbers, 6)),
-        field(numbers, 8),
-        TransactionSeqNum(field(numbers, 10)),
-        field(numbers, 12),
+        SegmentationControl::from_bit(numbers[5] != 0),
+        SegmentMetadataFlag::from_bit(numbers[6] != 0),
+        field(numbers[8], numbers[9]),
+        TransactionSeqNum(field(numbers[10], numbers[11])),
+        field(numbers[12], numbers[13]),
     )
 }
 
@@ -143,7 +120,9 @@ fn print_planned(planned: Planned, stored: &[u64], dealt: &[u64]) {
     }
 }
 
-fn check(task: Task, header: PduHeader, received: &[u64], store: &[u64]) {
+fn check(task: Task, header: PduHeader, received: &[u64], requests: &[u64], naks: &[u64]) {
+    let r = within(task.requests, requests);
+    let n = within(task.naks, naks);
     let size = task.size as usize;
     let checked = checker::check_plan(
         header,
@@ -151,44 +130,38 @@ fn check(task: Task, header: PduHeader, received: &[u64], store: &[u64]) {
         received,
         task.start,
         task.end,
-        stored(store, REQUESTS, NAKS, task.requests),
-        stored(store, NAKS, STORE_LEN, task.naks),
+        &requests[..r],
+        &naks[..n],
     );
     print_checked(checked);
 }
 
-fn plan(task: Task, header: PduHeader, received: &[u64]) {
-    let mut requests = [0u64; 2 * MOST_RANGES];
-    let mut naks = [0u64; 3 * MOST_NAKS];
+fn plan(task: Task, header: PduHeader, received: &[u64], requests: &mut [u64], naks: &mut [u64]) {
     let size = task.size as usize;
-    let planned = planner::plan(
-        header,
-        size,
-        received,
-        task.start,
-        task.end,
-        &mut requests,
-        &mut naks,
-    );
-    print_planned(planned, &requests, &naks);
+    let planned = planner::plan(header, size, received, task.start, task.end, requests, naks);
+    print_planned(planned, requests, naks);
 }
 
 // With a plan it is checked, and else one is made.
-fn answer(task: Task, header: PduHeader, store: &[u64]) {
-    let received = stored(store, 0, REQUESTS, task.received);
-    if task.given {
-        check(task, header, received, store);
-    } else {
-        plan(task, header, received);
-    }
-}
-
-pub fn print(task: Task, numbers: &[u64; MOST_NUMBERS], store: &[u64]) {
+pub fn print(
+    task: Task,
+    numbers: &[u64; 14],
+    received: &[u64],
+    requests: &mut [u64],
+    naks: &mut [u64],
+) {
     let header = header_of(numbers);
     match header {
         HeaderResult::Refused(refusal) => {
             listing::print_refusal(refusal);
         }
-        HeaderResult::Header(header) => answer(task, header, store),
+        HeaderResult::Header(header) => {
+            let n = within(task.received, received);
+            if task.given {
+                check(task, header, &received[..n], requests, naks);
+            } else {
+                plan(task, header, &received[..n], requests, naks);
+            }
+        }
     }
 }

@@ -24,36 +24,6 @@ fn say(text: &[u8]) {
     io::write_all(STDOUT_FILENO, text);
 }
 
-// What is missed at the end.
-fn say_missing(fault: Fault) {
-    match fault {
-        Fault::NoHeader => say(b" is the end, and there was no header\n"),
-        Fault::NoPacket => say(b" is the end, and there was no packet\n"),
-        _ => say(b" is the end, and there was no scope\n"),
-    }
-}
-
-// What there is no room for.
-fn say_too_many(fault: Fault) {
-    match fault {
-        Fault::TooManyRanges => say(b" has one received range more than 8190\n"),
-        Fault::TooManyRequests => say(b" has one request more than 8190\n"),
-        Fault::TooManyNaks => say(b" has one nak more than 1024\n"),
-        _ => say_missing(fault),
-    }
-}
-
-// What is wrong with a line because of those before it.
-fn say_order(fault: Fault) {
-    match fault {
-        Fault::SaidBefore => say(b" says what was said before\n"),
-        Fault::NoNakBefore => say(b" has a request with no nak before it\n"),
-        Fault::OtherEnd => say(b" has other counts than there are naks and requests\n"),
-        Fault::BehindEnd => say(b" stands behind the end\n"),
-        _ => say_too_many(fault),
-    }
-}
-
 // A line's number, from 1, and what is wrong with it. What is not there at the end is missed in the line behind the last.
 pub fn print(line: u64, fault: Fault) {
     say(b"line ");
@@ -66,6 +36,15 @@ pub fn print(line: u64, fault: Fault) {
         Fault::NotAHeader => say(
             b" has a flag above 1, a length above 65535 or a width above 255\n",
         ),
-        _ => say_order(fault),
+        Fault::SaidBefore => say(b" says what was said before\n"),
+        Fault::NoNakBefore => say(b" has a request with no nak before it\n"),
+        Fault::OtherEnd => say(b" has other counts than there are naks and requests\n"),
+        Fault::BehindEnd => say(b" stands behind the end\n"),
+        Fault::TooManyRanges => say(b" has one received range more than 8190\n"),
+        Fault::TooManyRequests => say(b" has one request more than 8190\n"),
+        Fault::TooManyNaks => say(b" has one nak more than 1024\n"),
+        Fault::NoHeader => say(b" is the end, and there was no header\n"),
+        Fault::NoPacket => say(b" is the end, and there was no packet\n"),
+        Fault::NoScope => say(b" is the end, and there was no scope\n"),
     }
 }

@@ -4,11 +4,6 @@ use crate::input::{Line, Place};
 use crate::words::{Kind, MOST_NUMBERS, Numbers};
 use crate::{input, words};
 
-// What a task may have: received ranges, and requests; NAKs.
-pub const MOST_RANGES: usize = 8190;
-
-pub const MOST_NAKS: usize = 1024;
-
 // What was read. Received ranges, requests and NAKs stand in lent numbers, of which so many are theirs.
 #[derive(Clone, Copy)]
 pub struct Task {
@@ -25,13 +20,6 @@ pub struct Task {
     pub given: bool,
     pub ended: bool,
 }
-
-// Where they stand in the lent numbers: received ranges first, then requests, then NAKs.
-pub const REQUESTS: usize = 2 * MOST_RANGES;
-
-pub const NAKS: usize = 2 * REQUESTS;
-
-pub const STORE_LEN: usize = NAKS + 3 * MOST_NAKS;
 
 // The task behind a line, or what is wrong with the line.
 #[derive(Clone, Copy)]
@@ -50,17 +38,6 @@ pub enum Reading {
 const LINE_LEN: usize = 512;
 
 const BLANK: u8 = 32;
-
-// The numbers from one place to another; none where they do not lie in the slice.
-fn part(numbers: &mut [u64], start: usize, stop: usize) -> &mut [u64] {
-    if numbers.len() < stop {
-        return &mut numbers[..0];
-    }
-    if stop < start {
-        return &mut numbers[..0];
-    }
-    &mut numbers[start..stop]
-}
 
 // Two numbers behind those that are there, and how many there are then; 0 where there is no room.
 fn put_two(numbers: &mut [u64], at: usize, first: u64, second: u64) -> usize {
@@ -100,7 +77,7 @@ fn count_up(numbers: &mut [u64], at: usize) {
 }
 
 // Whether the numbers of a header are within what its parts hold.
-fn is_header(numbers: &[u64; MOST_NUMBERS]) -> bool {
+fn is_header(numbers: &[u64; 14]) -> bool {
     let mut i = 0;
     while i < 7 {
         if 1 < numbers[i] {
@@ -120,11 +97,7 @@ fn is_header(numbers: &[u64; MOST_NUMBERS]) -> bool {
     numbers[12] <= 255
 }
 
-fn take_header(
-    task: Task,
-    numbers: &[u64; MOST_NUMBERS],
-    header: &mut [u64; MOST_NUMBERS],
-) -> Taken {
+fn take_header(task: Task, numbers: &[u64; 14], header: &mut [u64; 14]) -> Taken {
     if task.header {
         return Taken::Wrong(Fault::SaidBefore);
     }
@@ -132,66 +105,72 @@ fn take_header(
         return Taken::Wrong(Fault::NotAHeader);
     }
     *header = *numbers;
-    let mut more = task;
-    more.header = true;
-    Taken::Task(more)
+    Taken::Task(Task {
+        header: true,
+        ..task
+    })
 }
 
 fn take_packet(task: Task, size: u64) -> Taken {
     if task.packet {
         return Taken::Wrong(Fault::SaidBefore);
     }
-    let mut more = task;
-    more.packet = true;
-    more.size = size;
-    Taken::Task(more)
+    Taken::Task(Task {
+        packet: true,
+        size,
+        ..task
+    })
 }
 
 fn take_scope(task: Task, start: u64, end: u64) -> Taken {
     if task.scope {
         return Taken::Wrong(Fault::SaidBefore);
     }
-    let mut more = task;
-    more.scope = true;
-    more.start = start;
-    more.end = end;
-    Taken::Task(more)
+    Taken::Task(Task {
+        scope: true,
+        start,
+        end,
+        ..task
+    })
 }
 
-fn take_received(task: Task, start: u64, end: u64, store: &mut [u64]) -> Taken {
-    let count = put_two(part(store, 0, REQUESTS), task.received, start, end);
+fn take_received(task: Task, start: u64, end: u64, received: &mut [u64]) -> Taken {
+    let count = put_two(received, task.received, start, end);
     if count == 0 {
         return Taken::Wrong(Fault::TooManyRanges);
     }
-    let mut more = task;
-    more.received = count;
-    Taken::Task(more)
+    Taken::Task(Task {
+        received: count,
+        ..task
+    })
 }
 
-fn take_nak(task: Task, start: u64, end: u64, store: &mut [u64]) -> Taken {
-    let count = put_nak(part(store, NAKS, STORE_LEN), task.naks, start, end);
+fn take_nak(task: Task, start: u64, end: u64, naks: &mut [u64]) -> Taken {
+    let count = put_nak(naks, task.naks, start, end);
     if count == 0 {
         return Taken::Wrong(Fault::TooManyNaks);
     }
-    let mut more = task;
-    more.naks = count;
-    more.given = true;
-    Taken::Task(more)
+    Taken::Task(Task {
+        naks: count,
+        given: true,
+        ..task
+    })
 }
 
-fn take_request(task: Task, start: u64, end: u64, store: &mut [u64]) -> Taken {
+fn take_request(task: Task, start: u64, end: u64, requests: &mut [u64], naks: &mut [u64]) -> Taken {
     let behind = task.naks;
     if behind == 0 {
         return Taken::Wrong(Fault::NoNakBefore);
     }
-    let count = put_two(part(store, REQUESTS, NAKS), task.requests, start, end);
+    let count = put_two(requests, task.requests, start, end);
     if count == 0 {
         return Taken::Wrong(Fault::TooManyRequests);
     }
-    count_up(part(store, NAKS, STORE_LEN), behind - 1);
-    let mut more = task;
-    more.requests = count;
-    Taken::Task(more)
+    count_up(naks, behind - 1);
+    Taken::Task(Task {
+        requests: count,
+        ..task
+    })
 }
 
 fn take_end(task: Task, naks: u64, requests: u64) -> Taken {
@@ -201,10 +180,11 @@ fn take_end(task: Task, naks: u64, requests: u64) -> Taken {
     if requests != (task.requests / 2) as u64 {
         return Taken::Wrong(Fault::OtherEnd);
     }
-    let mut more = task;
-    more.given = true;
-    more.ended = true;
-    Taken::Task(more)
+    Taken::Task(Task {
+        given: true,
+        ended: true,
+        ..task
+    })
 }
 
 // How many numbers stand behind a word.
@@ -216,13 +196,15 @@ fn wanted(kind: Kind) -> usize {
     }
 }
 
-// What a line says, whose numbers stand where they were lent for.
-fn take(
+// A line with as many numbers as it is to have; the arrays are lent to those that store in them.
+fn take_numbers(
     task: Task,
     kind: Kind,
-    numbers: &[u64; MOST_NUMBERS],
-    header: &mut [u64; MOST_NUMBERS],
-    store: &mut [u64],
+    numbers: &[u64; 14],
+    header: &mut [u64; 14],
+    received: &mut [u64],
+    requests: &mut [u64],
+    naks: &mut [u64],
 ) -> Taken {
     let first = numbers[0];
     let second = numbers[1];
@@ -230,60 +212,57 @@ fn take(
         Kind::Header => take_header(task, numbers, header),
         Kind::Packet => take_packet(task, first),
         Kind::Scope => take_scope(task, first, second),
-        Kind::Received => take_received(task, first, second, store),
-        Kind::Nak => take_nak(task, first, second, store),
-        Kind::Request => take_request(task, first, second, store),
+        Kind::Received => take_received(task, first, second, received),
+        Kind::Nak => take_nak(task, first, second, naks),
+        Kind::Request => take_request(task, first, second, requests, naks),
         Kind::End => take_end(task, first, second),
         Kind::Nothing => Taken::Task(task),
         Kind::Unknown => Taken::Wrong(Fault::NoSuchWord),
     }
 }
 
-// What the next line says, and where the one behind it begins.
-#[derive(Clone, Copy)]
-enum Next {
-    Said { kind: Kind, place: Place },
-    Wrong(Fault),
-    End,
-}
-
-// A line that is not blank, whose first word begins at `at`: it is to have as many numbers as its kind has.
-fn say_numbers(line: &[u8], at: usize, kind: Kind, place: Place, numbers: &mut [u64]) -> Next {
-    let found = words::numbers_in(line, words::end_of(line, at, false), numbers);
+// A line that is not blank, whose first word begins at `at`.
+fn take_line(
+    task: Task,
+    line: &[u8],
+    at: usize,
+    kind: Kind,
+    header: &mut [u64; 14],
+    received: &mut [u64],
+    requests: &mut [u64],
+    naks: &mut [u64],
+) -> Taken {
+    if task.ended {
+        return Taken::Wrong(Fault::BehindEnd);
+    }
+    let mut numbers = [0u64; MOST_NUMBERS];
+    let found = words::numbers_in(line, words::end_of(line, at, false), &mut numbers);
     match found {
-        Numbers::Wrong(fault) => Next::Wrong(fault),
+        Numbers::Wrong(fault) => Taken::Wrong(fault),
         Numbers::Count(count) => {
             if count != wanted(kind) {
-                return Next::Wrong(Fault::OtherCount);
+                return Taken::Wrong(Fault::OtherCount);
             }
-            Next::Said { kind, place }
+            take_numbers(task, kind, &numbers, header, received, requests, naks)
         }
     }
 }
 
-// Blank lines say nothing, and may stand behind the end.
-fn say(line: &[u8], ended: bool, place: Place, numbers: &mut [u64]) -> Next {
+// Blank lines are passed over.
+fn take(
+    task: Task,
+    line: &[u8],
+    header: &mut [u64; 14],
+    received: &mut [u64],
+    requests: &mut [u64],
+    naks: &mut [u64],
+) -> Taken {
     let at = words::end_of(line, 0, true);
     let kind = words::kind_of(line, at);
     match kind {
-        Kind::Nothing => Next::Said { kind, place },
-        Kind::Unknown => Next::Wrong(Fault::NoSuchWord),
-        _ => {
-            if ended {
-                return Next::Wrong(Fault::BehindEnd);
-            }
-            say_numbers(line, at, kind, place, numbers)
-        }
-    }
-}
-
-fn say_next(chunk: &mut [u8], place: Place, ended: bool, numbers: &mut [u64]) -> Next {
-    let mut line = [BLANK; LINE_LEN];
-    let next = input::next_line(chunk, place, &mut line);
-    match next {
-        Line::End => Next::End,
-        Line::TooLong => Next::Wrong(Fault::TooLong),
-        Line::Whole(behind) => say(&line, ended, behind, numbers),
+        Kind::Nothing => Taken::Task(task),
+        Kind::Unknown => Taken::Wrong(Fault::NoSuchWord),
+        _ => take_line(task, line, at, kind, header, received, requests, naks),
     }
 }
 
@@ -333,46 +312,55 @@ enum Step {
     Done(Reading),
 }
 
-fn go_on(taken: Taken, place: Place, number: u64) -> Step {
-    match taken {
-        Taken::Wrong(fault) => Step::Done(Reading::Wrong {
-            line: number,
-            fault,
-        }),
-        Taken::Task(task) => Step::More { place, task },
-    }
-}
-
 // The next line, which has that number.
 fn read_line(
     chunk: &mut [u8],
     place: Place,
     task: Task,
     number: u64,
-    header: &mut [u64; MOST_NUMBERS],
-    store: &mut [u64],
+    header: &mut [u64; 14],
+    received: &mut [u64],
+    requests: &mut [u64],
+    naks: &mut [u64],
 ) -> Step {
-    let mut numbers = [0u64; MOST_NUMBERS];
-    let next = say_next(chunk, place, task.ended, &mut numbers);
+    let mut line = [BLANK; LINE_LEN];
+    let next = input::next_line(chunk, place, &mut line);
     match next {
-        Next::End => Step::Done(whole(task, number)),
-        Next::Wrong(fault) => go_on(Taken::Wrong(fault), place, number),
-        Next::Said { kind, place } => go_on(
-            take(task, kind, &numbers, header, store),
-            place,
-            number,
-        ),
+        Line::End => Step::Done(whole(task, number)),
+        Line::TooLong => Step::Done(Reading::Wrong {
+            line: number,
+            fault: Fault::TooLong,
+        }),
+        Line::Whole(behind) => {
+            let taken = take(task, &line, header, received, requests, naks);
+            match taken {
+                Taken::Wrong(fault) => Step::Done(Reading::Wrong {
+                    line: number,
+                    fault,
+                }),
+                Taken::Task(more) => Step::More {
+                    place: behind,
+                    task: more,
+                },
+            }
+        }
     }
 }
 
 // Reads standard input to its end, or to the first line that is wrong.
-pub fn read(chunk: &mut [u8], header: &mut [u64; MOST_NUMBERS], store: &mut [u64]) -> Reading {
+pub fn read(
+    chunk: &mut [u8],
+    header: &mut [u64; 14],
+    received: &mut [u64],
+    requests: &mut [u64],
+    naks: &mut [u64],
+) -> Reading {
     let mut place = Place { at: 0, have: 0 };
     let mut task = nothing_read();
     let mut number = 0;
     while number < u64::MAX {
         number += 1;
-        let next = read_line(chunk, place, task, number, header, store);
+        let next = read_line(chunk, place, task, number, header, received, requests, naks);
         match next {
             Step::Done(reading) => return reading,
             Step::More {

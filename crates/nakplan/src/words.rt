@@ -70,20 +70,6 @@ fn is_word(line: &[u8], at: usize, word: &[u8]) -> bool {
     end_of(line, i, false) == i
 }
 
-// Of a line of a plan.
-fn plan_kind_of(line: &[u8], at: usize) -> Kind {
-    if is_word(line, at, b"request") {
-        return Kind::Request;
-    }
-    if is_word(line, at, b"nak") {
-        return Kind::Nak;
-    }
-    if is_word(line, at, b"end") {
-        return Kind::End;
-    }
-    Kind::Unknown
-}
-
 // What a line is about, by its first word, which begins at `at`.
 pub fn kind_of(line: &[u8], at: usize) -> Kind {
     if line.len() <= at {
@@ -91,6 +77,12 @@ pub fn kind_of(line: &[u8], at: usize) -> Kind {
     }
     if is_word(line, at, b"received") {
         return Kind::Received;
+    }
+    if is_word(line, at, b"request") {
+        return Kind::Request;
+    }
+    if is_word(line, at, b"nak") {
+        return Kind::Nak;
     }
     if is_word(line, at, b"header") {
         return Kind::Header;
@@ -101,7 +93,10 @@ pub fn kind_of(line: &[u8], at: usize) -> Kind {
     if is_word(line, at, b"scope") {
         return Kind::Scope;
     }
-    plan_kind_of(line, at)
+    if is_word(line, at, b"end") {
+        return Kind::End;
+    }
+    Kind::Unknown
 }
 
 const TENTH: u64 = 1844674407370955161;

@@ -1,18 +1,18 @@
 -- Laws of calls: what a state says comes first, and bytes below the named length are all waited for with the same need.
 -- Assumes nothing.
-use Prim.Native.Nat.{ℕ, zero, suc, ◌+◌, ◌-◌, ◌≤◌, ◌<◌, zero-le, suc-le-suc}
+use Prim.Native.Nat.{ℕ, suc, ◌+◌, ◌-◌, ◌≤◌, ◌<◌, zero-le, suc-le-suc}
 use mathlib.Core.Path.{◌≡◌, refl, sym, ap, ap₂, ◌∙◌}
-use mathlib.Core.List.{List, [], ◌∷◌, ◌++◌, append_assoc, append-nil}
-use native.Mathlib.Nat.{add-suc, suc-add, zero-add, add-zero}
+use mathlib.Core.List.{List, [], ◌∷◌, ◌++◌}
+use native.Mathlib.Nat.{zero-add, add-zero}
 use native.Mathlib.Numerals.{add-one}
 use native.Mathlib.Omega.{arith}
 use lib.ListN.{length, take, drop, set, length-take, length-drop, length-set, length-append, take-append-drop, drop_of_length-le}
-use lib.Seq.{sets, sets-eq, length-sets, take_at, length-take-le, drop-drop}
+use lib.Seq.{sets, sets-eq, take_at, length-take-le, drop-drop}
 use Rattle.fields.specs.Answer.{Answer, accepted, short, refused}
 use Rattle.fields.specs.Staged.{run}
 use Rattle.nak.specs.declared.Nak.{Nak}
 use Rattle.receiver.specs.declared.Receiver.{Receiver}
-use Rattle.receiver.specs.Receiving.{window_length, receiving, status, put, begun, state_of, more, nak, refusal, Call, one_more, hear, call}
+use Rattle.receiver.specs.Receiving.{window_length, receiving, status, put, begun, state_of, more, nak, refusal, Call, one_more, call}
 use Rattle.receiver.specs.Demands.{TakenInside}
 use Rattle.receiver.proofs.Reading.{needs_in_window, receiving_demand3}
 

@@ -1,9 +1,9 @@
 -- What is given: a NAK stands in the window still, a refusal is never 1 and stays, and each promise leaves one answer.
 -- Assumes nothing.
 use Prim.Native.Nat.{ℕ, ◌≤◌}
-use mathlib.Core.Path.{◌≡◌, refl, sym, ap, ap₂, subst, ◌∙◌}
+use mathlib.Core.Path.{◌≡◌, refl, sym, ap, subst, ◌∙◌}
 use mathlib.Core.Bool.{Bool, true, false}
-use mathlib.Core.List.{List, [], ◌∷◌, ◌++◌}
+use mathlib.Core.List.{List, [], ◌∷◌}
 use native.Mathlib.Omega.{arith}
 use lib.Dec.{ltb}
 use lib.ListN.{length, take, drop, length-take, length-set, take-append-drop}
@@ -17,11 +17,9 @@ use Rattle.nak.specs.declared.Nak.{Nak}
 use Rattle.nak.specs.Reading.{reading_nak}
 use Rattle.nak.proofs.Demands.{nak_demand3}
 use Rattle.receiver.specs.declared.Receiver.{Receiver}
-use Rattle.receiver.specs.declared.Received.{Received}
-use Rattle.receiver.specs.declared.Taken.{Taken}
 use Rattle.receiver.specs.declared.Outcome.{Outcome}
 use Rattle.receiver.specs.declared.Outcome.TheVariants.{More, Nak as Given, Refused}
-use Rattle.receiver.specs.Receiving.{window_length, receiving, status, put, begun, Outcomes, more, nak, refusal, outcome_of, Call, one_more, call, call_of, taken_of}
+use Rattle.receiver.specs.Receiving.{window_length, receiving, status, put, begun, nak, refusal, outcome_of, Call, call}
 use Rattle.receiver.specs.Within.{capped}
 use Rattle.receiver.specs.Demands.{GivenStands, NeverOne, RefusalStays, OneReceived, OneTaken}
 use Rattle.receiver.proofs.Reading.{refused_not_one, capped_reading}

@@ -1,7 +1,7 @@
 -- What the bytes in the window say, at each exit of the code.
 -- Assumes nothing.
 use Prim.Native.Nat.{ℕ, ◌≤◌, ◌<◌, min}
-use native.Mathlib.Nat.{min-eq_left, min-eq_right, le_of_lt, le_refl}
+use native.Mathlib.Nat.{le_refl}
 use mathlib.Core.Path.{◌≡◌, refl, sym, ap, ◌∙◌}
 use mathlib.Core.Bool.{Bool, true, false}
 use mathlib.Core.List.{List, [], ◌∷◌}
@@ -10,7 +10,7 @@ use lib.Dec.{ltb}
 use lib.ListN.{length, get_or, take, length-take}
 use lib.Seq.{take_all}
 use borrow.Author.Tests.{ltb-true, ltb-false, lt-ltb, le-ltb}
-use Rattle.fields.specs.Answer.{Answer, accepted, short, refused, told}
+use Rattle.fields.specs.Answer.{Answer, short, refused, told}
 use Rattle.fields.specs.Staged.{run}
 use Rattle.fields.proofs.Waiting.{told_one, told_other}
 use Rattle.nak.specs.declared.Nak.{Nak}

@@ -1,5 +1,5 @@
 -- A receiver 'that takes fragments of a stream of NAKs laid end to end' (document 02, C-07): its state, what the bytes in its window say, and a call with a fragment, a byte at a time.
-use Rattle.std.specs.Prelude.{ℕ, zero, suc, List, [], ◌∷◌, ltb, take, set, replicate}
+use Rattle.std.specs.Prelude.{ℕ, suc, List, [], ◌∷◌, ltb, take, set, replicate}
 use Rattle.fields.specs.Answer.{Answer, accepted, short, refused, Test, when}
 use Rattle.fields.specs.Refusal.{paper}
 use Rattle.fields.specs.Staged.{Staged, ◌>>=◌, ◌>>◌, run, test}

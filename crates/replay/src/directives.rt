@@ -5,10 +5,10 @@ use crate::{expected, list};
 use cfdp::{ANSWER_LEN, acks, eofs};
 
 pub fn eof_read() -> bool {
-    let mut room = [0u8; MOST_BYTES];
-    let bytes = list::bytes(&mut room);
+    let mut bytes = [0u8; MOST_BYTES];
+    let n = list::bytes(&mut bytes);
     let mut answer = [UNTOUCHED; ANSWER_LEN];
-    eofs::cfdp_eof_read(bytes, &mut answer);
+    eofs::cfdp_eof_read(&bytes[..n], &mut answer);
     expected::answer(&answer)
 }
 
@@ -24,6 +24,7 @@ pub fn eof_write() -> bool {
     let lent = list::four();
     let filler = list::byte();
     let mut buf = [filler; MOST_BYTES];
+    let n = list::within(lent, &buf);
     let mut answer = [UNTOUCHED; ANSWER_LEN];
     eofs::cfdp_eof_write(
         &shape,
@@ -34,17 +35,18 @@ pub fn eof_write() -> bool {
         fault,
         width,
         value,
-        list::front(&mut buf, lent),
+        &mut buf[..n],
         &mut answer,
     );
-    expected::written(&answer, &buf, filler)
+    let same = expected::answer(&answer);
+    same & expected::after(&buf, filler)
 }
 
 pub fn ack_read() -> bool {
-    let mut room = [0u8; MOST_BYTES];
-    let bytes = list::bytes(&mut room);
+    let mut bytes = [0u8; MOST_BYTES];
+    let n = list::bytes(&mut bytes);
     let mut answer = [UNTOUCHED; ANSWER_LEN];
-    acks::cfdp_ack_read(bytes, &mut answer);
+    acks::cfdp_ack_read(&bytes[..n], &mut answer);
     expected::answer(&answer)
 }
 
@@ -57,6 +59,7 @@ pub fn ack_write() -> bool {
     let lent = list::four();
     let filler = list::byte();
     let mut buf = [filler; MOST_BYTES];
+    let n = list::within(lent, &buf);
     let mut answer = [UNTOUCHED; ANSWER_LEN];
     acks::cfdp_ack_write(
         &shape,
@@ -64,8 +67,9 @@ pub fn ack_write() -> bool {
         directive,
         condition,
         status,
-        list::front(&mut buf, lent),
+        &mut buf[..n],
         &mut answer,
     );
-    expected::written(&answer, &buf, filler)
+    let same = expected::answer(&answer);
+    same & expected::after(&buf, filler)
 }

@@ -41,16 +41,10 @@ fn same_bytes(a: &[u8; MOST_BYTES], b: &[u8; MOST_BYTES]) -> bool {
 }
 
 // Whether an array, whose front was lent, holds the list's bytes, and behind them what filled it.
-fn after(found: &[u8; MOST_BYTES], filler: u8) -> bool {
+pub fn after(found: &[u8; MOST_BYTES], filler: u8) -> bool {
     let mut wanted = [filler; MOST_BYTES];
     list::bytes(&mut wanted);
     same_bytes(found, &wanted)
-}
-
-// Whether a call that writes gave the list's answer, and left such an array.
-pub fn written(found: &Answer, buf: &[u8; MOST_BYTES], filler: u8) -> bool {
-    let same = answer(found);
-    same & after(buf, filler)
 }
 
 // Whether the pair of an index is there, with these numbers.

@@ -67,54 +67,44 @@ fn count(most: usize) -> usize
 }
 
 // A length of a part of the bytes, cut likewise.
-fn within(length: u32, s: &[u8]) -> usize
+pub fn within(length: u32, s: &[u8]) -> usize
     ensures { IsPrefixLen result s.now }
 {
     let n = length as usize;
     if n < s.len() { n } else { s.len() }
 }
 
-// The front of an array, of that length.
-pub fn front(s: &mut [u8], length: u32) -> &mut [u8] {
-    let n = within(length, s);
-    &mut s[..n]
-}
-
 // A length, then as many bytes, to the front of an array.
-pub fn bytes(into: &mut [u8]) -> &mut [u8] {
-    let part = front(into, four());
-    io::read_full(STDIN_FILENO, part);
-    part
+pub fn bytes(into: &mut [u8]) -> usize
+    ensures { IsPrefixLen result into.new }
+{
+    let n = within(four(), into);
+    io::read_full(STDIN_FILENO, &mut into[..n]);
+    n
 }
 
-fn read_normal(into: &mut [u32]) {
+// A count, then as many numbers of 4 bytes.
+pub fn normal(into: &mut [u32]) -> usize
+    ensures { IsPrefixLen result into.new }
+{
+    let n = count(into.len());
     let mut i = 0;
-    while i < into.len() {
+    while i < n {
         into[i] = four();
         i += 1;
     }
+    n
 }
 
-// A count, then as many numbers of 4 bytes, to the front of an array.
-pub fn normal(into: &mut [u32]) -> &mut [u32] {
+// A count, then as many numbers of 8 bytes.
+pub fn large(into: &mut [u64]) -> usize
+    ensures { IsPrefixLen result into.new }
+{
     let n = count(into.len());
-    let part = &mut into[..n];
-    read_normal(part);
-    part
-}
-
-fn read_large(into: &mut [u64]) {
     let mut i = 0;
-    while i < into.len() {
+    while i < n {
         into[i] = eight();
         i += 1;
     }
-}
-
-// A count, then as many numbers of 8 bytes, to the front of an array.
-pub fn large(into: &mut [u64]) -> &mut [u64] {
-    let n = count(into.len());
-    let part = &mut into[..n];
-    read_large(part);
-    part
+    n
 }

@@ -3,6 +3,7 @@
 
 ghost use Rattle.std.specs.Prelude.{◌≤◌};
 
+
 mod directives;
 mod expected;
 mod headers;

@@ -36,33 +36,30 @@ fn walked(area: &[u8], count: usize) -> bool {
     same & (at == area.len()) & (end[0] == 0) & (end[4] == 0)
 }
 
-// The bytes from one place to another; none where they do not lie in the slice.
-fn part(bytes: &[u8], start: usize, stop: usize) -> &[u8] {
-    if bytes.len() < stop {
-        return &bytes[..0];
-    }
-    if stop < start {
-        return &bytes[..0];
-    }
-    &bytes[start..stop]
-}
-
-// Whether the options of a reading are the list's; a refused one has none.
+// Whether the options of a reading are the list's; a refused one has none, and an area that does not lie in the bytes is empty.
 fn options(answer: &Answer, bytes: &[u8]) -> bool {
     let count = list::four() as usize;
+    let start = answer[22] as usize;
+    let stop = answer[23] as usize;
     if answer[0] != 0 {
-        return walked(b"", count);
+        return walked(&bytes[..0], count);
     }
-    walked(part(bytes, answer[22] as usize, answer[23] as usize), count)
+    if bytes.len() < stop {
+        return walked(&bytes[..0], count);
+    }
+    if stop < start {
+        return walked(&bytes[..0], count);
+    }
+    walked(&bytes[start..stop], count)
 }
 
 pub fn metadata_read() -> bool {
-    let mut room = [0u8; MOST_BYTES];
-    let bytes = list::bytes(&mut room);
+    let mut bytes = [0u8; MOST_BYTES];
+    let n = list::bytes(&mut bytes);
     let mut answer = [UNTOUCHED; ANSWER_LEN];
-    metadatas::cfdp_metadata_read(bytes, &mut answer);
+    metadatas::cfdp_metadata_read(&bytes[..n], &mut answer);
     let same = expected::answer(&answer);
-    same & options(&answer, bytes)
+    same & options(&answer, &bytes[..n])
 }
 
 // The names and options of a record have at most 1,000 bytes each.
@@ -72,15 +69,16 @@ pub fn metadata_write() -> bool {
     let closure = list::byte() != 0;
     let kind = list::byte();
     let size = list::eight();
-    let mut source_room = [0u8; 1000];
-    let source = list::bytes(&mut source_room);
-    let mut destination_room = [0u8; 1000];
-    let destination = list::bytes(&mut destination_room);
-    let mut option_room = [0u8; 1000];
-    let options = list::bytes(&mut option_room);
+    let mut source = [0u8; 1000];
+    let s = list::bytes(&mut source);
+    let mut destination = [0u8; 1000];
+    let d = list::bytes(&mut destination);
+    let mut options = [0u8; 1000];
+    let o = list::bytes(&mut options);
     let lent = list::four();
     let filler = list::byte();
     let mut buf = [filler; MOST_BYTES];
+    let n = list::within(lent, &buf);
     let mut answer = [UNTOUCHED; ANSWER_LEN];
     metadatas::cfdp_metadata_write(
         &shape,
@@ -88,11 +86,12 @@ pub fn metadata_write() -> bool {
         closure,
         kind,
         size,
-        source,
-        destination,
-        options,
-        list::front(&mut buf, lent),
+        &source[..s],
+        &destination[..d],
+        &options[..o],
+        &mut buf[..n],
         &mut answer,
     );
-    expected::written(&answer, &buf, filler)
+    let same = expected::answer(&answer);
+    same & expected::after(&buf, filler)
 }

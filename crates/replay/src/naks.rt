@@ -5,12 +5,12 @@ use crate::{expected, list};
 use cfdp::{ANSWER_LEN, compare, read, reserve, write};
 
 pub fn nak_read() -> bool {
-    let mut room = [0u8; MOST_BYTES];
-    let bytes = list::bytes(&mut room);
+    let mut bytes = [0u8; MOST_BYTES];
+    let n = list::bytes(&mut bytes);
     let mut answer = [UNTOUCHED; ANSWER_LEN];
-    read::cfdp_nak_read(bytes, &mut answer);
+    read::cfdp_nak_read(&bytes[..n], &mut answer);
     let same = expected::answer(&answer);
-    same & expected::requests(&answer, bytes)
+    same & expected::requests(&answer, &bytes[..n])
 }
 
 pub fn nak_write() -> bool {
@@ -21,16 +21,11 @@ pub fn nak_write() -> bool {
     let lent = list::four();
     let filler = list::byte();
     let mut buf = [filler; MOST_BYTES];
+    let n = list::within(lent, &buf);
     let mut answer = [UNTOUCHED; ANSWER_LEN];
-    write::cfdp_nak_write(
-        &shape,
-        &ids,
-        start,
-        end,
-        list::front(&mut buf, lent),
-        &mut answer,
-    );
-    expected::written(&answer, &buf, filler)
+    write::cfdp_nak_write(&shape, &ids, start, end, &mut buf[..n], &mut answer);
+    let same = expected::answer(&answer);
+    same & expected::after(&buf, filler)
 }
 
 pub fn nak_write_normal() -> bool {
@@ -38,22 +33,24 @@ pub fn nak_write_normal() -> bool {
     let ids = list::ids();
     let start = list::eight();
     let end = list::eight();
-    let mut number_room = [0u32; MOST_NORMAL];
-    let numbers = list::normal(&mut number_room);
+    let mut numbers = [0u32; MOST_NORMAL];
+    let count = list::normal(&mut numbers);
     let lent = list::four();
     let filler = list::byte();
     let mut buf = [filler; MOST_BYTES];
+    let n = list::within(lent, &buf);
     let mut answer = [UNTOUCHED; ANSWER_LEN];
     write::cfdp_nak_write_normal(
         &shape,
         &ids,
         start,
         end,
-        numbers,
-        list::front(&mut buf, lent),
+        &numbers[..count],
+        &mut buf[..n],
         &mut answer,
     );
-    expected::written(&answer, &buf, filler)
+    let same = expected::answer(&answer);
+    same & expected::after(&buf, filler)
 }
 
 pub fn nak_write_large() -> bool {
@@ -61,22 +58,24 @@ pub fn nak_write_large() -> bool {
     let ids = list::ids();
     let start = list::eight();
     let end = list::eight();
-    let mut number_room = [0u64; MOST_LARGE];
-    let numbers = list::large(&mut number_room);
+    let mut numbers = [0u64; MOST_LARGE];
+    let count = list::large(&mut numbers);
     let lent = list::four();
     let filler = list::byte();
     let mut buf = [filler; MOST_BYTES];
+    let n = list::within(lent, &buf);
     let mut answer = [UNTOUCHED; ANSWER_LEN];
     write::cfdp_nak_write_large(
         &shape,
         &ids,
         start,
         end,
-        numbers,
-        list::front(&mut buf, lent),
+        &numbers[..count],
+        &mut buf[..n],
         &mut answer,
     );
-    expected::written(&answer, &buf, filler)
+    let same = expected::answer(&answer);
+    same & expected::after(&buf, filler)
 }
 
 pub fn nak_most() -> bool {
@@ -94,11 +93,12 @@ pub fn nak_reserve() -> bool {
     let pairs = list::eight() as usize;
     let lent = list::four();
     let filler = list::byte();
-    let mut buf = [filler; MOST_BYTES];
+    let buf = [filler; MOST_BYTES];
+    let n = list::within(lent, &buf);
     let mut answer = [UNTOUCHED; ANSWER_LEN];
-    let room = list::front(&mut buf, lent);
-    reserve::cfdp_nak_reserve(&shape, &ids, pairs, room, &mut answer);
-    expected::written(&answer, &buf, filler)
+    reserve::cfdp_nak_reserve(&shape, &ids, pairs, &buf[..n], &mut answer);
+    let same = expected::answer(&answer);
+    same & expected::after(&buf, filler)
 }
 
 pub fn nak_finish() -> bool {
@@ -110,17 +110,11 @@ pub fn nak_finish() -> bool {
     let lent = list::four();
     let filler = list::byte();
     let mut buf = [filler; MOST_BYTES];
+    let n = list::within(lent, &buf);
     let mut answer = [UNTOUCHED; ANSWER_LEN];
-    reserve::cfdp_nak_finish(
-        &shape,
-        &ids,
-        pairs,
-        start,
-        end,
-        list::front(&mut buf, lent),
-        &mut answer,
-    );
-    expected::written(&answer, &buf, filler)
+    reserve::cfdp_nak_finish(&shape, &ids, pairs, start, end, &mut buf[..n], &mut answer);
+    let same = expected::answer(&answer);
+    same & expected::after(&buf, filler)
 }
 
 pub fn nak_compare() -> bool {
@@ -128,10 +122,10 @@ pub fn nak_compare() -> bool {
     let ids = list::ids();
     let start = list::eight();
     let end = list::eight();
-    let mut room = [0u8; MOST_BYTES];
-    let bytes = list::bytes(&mut room);
+    let mut bytes = [0u8; MOST_BYTES];
+    let n = list::bytes(&mut bytes);
     let mut answer = [UNTOUCHED; ANSWER_LEN];
-    compare::cfdp_nak_compare(bytes, &shape, &ids, start, end, &mut answer);
+    compare::cfdp_nak_compare(&bytes[..n], &shape, &ids, start, end, &mut answer);
     expected::answer(&answer)
 }
 
@@ -140,12 +134,20 @@ pub fn nak_compare_normal() -> bool {
     let ids = list::ids();
     let start = list::eight();
     let end = list::eight();
-    let mut room = [0u8; MOST_BYTES];
-    let bytes = list::bytes(&mut room);
-    let mut number_room = [0u32; MOST_NORMAL];
-    let numbers = list::normal(&mut number_room);
+    let mut bytes = [0u8; MOST_BYTES];
+    let n = list::bytes(&mut bytes);
+    let mut numbers = [0u32; MOST_NORMAL];
+    let count = list::normal(&mut numbers);
     let mut answer = [UNTOUCHED; ANSWER_LEN];
-    compare::cfdp_nak_compare_normal(bytes, &shape, &ids, start, end, numbers, &mut answer);
+    compare::cfdp_nak_compare_normal(
+        &bytes[..n],
+        &shape,
+        &ids,
+        start,
+        end,
+        &numbers[..count],
+        &mut answer,
+    );
     expected::answer(&answer)
 }
 
@@ -154,11 +156,19 @@ pub fn nak_compare_large() -> bool {
     let ids = list::ids();
     let start = list::eight();
     let end = list::eight();
-    let mut room = [0u8; MOST_BYTES];
-    let bytes = list::bytes(&mut room);
-    let mut number_room = [0u64; MOST_LARGE];
-    let numbers = list::large(&mut number_room);
+    let mut bytes = [0u8; MOST_BYTES];
+    let n = list::bytes(&mut bytes);
+    let mut numbers = [0u64; MOST_LARGE];
+    let count = list::large(&mut numbers);
     let mut answer = [UNTOUCHED; ANSWER_LEN];
-    compare::cfdp_nak_compare_large(bytes, &shape, &ids, start, end, numbers, &mut answer);
+    compare::cfdp_nak_compare_large(
+        &bytes[..n],
+        &shape,
+        &ids,
+        start,
+        end,
+        &numbers[..count],
+        &mut answer,
+    );
     expected::answer(&answer)
 }

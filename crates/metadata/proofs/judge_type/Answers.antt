@@ -1,6 +1,5 @@
 -- `metadata::judge_type` meets its contract: above 3 only 15 is in the list.
 use Rattle.metadata.proofs.Types.{type_lacks, type_none, type_low}
-use borrow.Author.Rules.{rules}
 use Rattle.metadata.proofs.judge_type.Goals as goal
 
 pub returns-then-kind-ne15 : goal.returns-then-kind-ne15

@@ -1,14 +1,13 @@
 -- `receiver::receive_in` meets its contract. The loop's invariant: a call with what is left of the fragment, from the window as it is, gives what the whole call gives, and its short readings with those that were counted are the whole call's.
 -- Its measure is how many short readings are left. They are at most four, so the count fits.
-use Prim.Native.Nat.{◌+◌, ◌≤◌}
-use mathlib.Core.Path.{◌≡◌, refl, sym, ap, ◌∙◌}
+use mathlib.Core.Path.{refl, sym, ap, ◌∙◌}
 use native.Mathlib.Nat.{zero-add}
 use native.Mathlib.Omega.{arith}
-use lib.ListN.{length, drop, length-take, length-drop}
+use lib.ListN.{length, length-take, length-drop}
 use lib.Seq.{length-sets}
-use Rattle.receiver.specs.Receiving.{window_length, state_of, call}
-use Rattle.receiver.specs.Within.{status_answer, short_readings}
-use Rattle.receiver.proofs.Calls.{more_by, more_none, waits_for, gives_nak, gives_refusal, gives_more, turn}
+use Rattle.receiver.specs.Receiving.{state_of}
+use Rattle.receiver.specs.Within.{status_answer}
+use Rattle.receiver.proofs.Calls.{more_none, waits_for, gives_nak, gives_refusal, gives_more, turn}
 use Rattle.receiver.proofs.Shorts.{at_end, all_nak, all_refused, all_more, turn_counts, turn_less}
 use Rattle.receiver.proofs.Waits.{few_shorts}
 use borrow.Author.Rules.{rules}

@@ -1,8 +1,7 @@
 -- `receiver::refused` meets its contract: the refusal's number says whether it is 1, and its second value is the need.
-use mathlib.Core.Path.{◌≡◌, ap}
+use mathlib.Core.Path.{ap}
 use Rattle.fields.specs.declared.refusal.RefusalNumbers.{RefusalNumbers}
 use Rattle.receiver.proofs.Window.{other_refusal, above_window_lem, in_window}
-use borrow.Author.Rules.{rules}
 use Rattle.receiver.proofs.refused.Goals as goal
 
 pub returns-then-numbers-ne1 : goal.returns-then-numbers-ne1

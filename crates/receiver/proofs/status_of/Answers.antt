@@ -1,10 +1,9 @@
 -- `receiver::status_of` meets its contract: the NAK's reading of the bytes that are there, capped.
-use mathlib.Core.Path.{◌≡◌, sym, ap, ◌∙◌}
+use mathlib.Core.Path.{sym, ap, ◌∙◌}
 use native.Mathlib.Omega.{arith}
 use lib.Seq.{length-take-le}
 use Rattle.nak.specs.Reading.{nak_answer}
 use Rattle.receiver.proofs.Window.{window_says}
-use borrow.Author.Rules.{rules}
 use Rattle.receiver.proofs.status_of.Goals as goal
 
 pub slice_bounds-from_bytes-end : goal.slice_bounds-from_bytes-end

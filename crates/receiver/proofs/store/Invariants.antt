@@ -1,12 +1,8 @@
 -- `receiver::store` meets its contract. The loop's invariant: storing the bytes that are left gives what is to be stored.
 use Prim.Native.Nat.{◌+◌, ◌-◌, ◌≤◌}
-use mathlib.Core.Path.{◌≡◌, refl, ap, ◌∙◌}
-use native.Mathlib.Nat.{add-zero}
-use native.Mathlib.Omega.{arith}
-use lib.ListN.{length, drop, length-set}
+use mathlib.Core.Path.{◌≡◌}
+use lib.ListN.{length, drop}
 use lib.Seq.{sets}
-use Rattle.receiver.proofs.Storing.{byte_turn, bytes_done}
-use borrow.Author.Rules.{rules}
 use Rattle.receiver.proofs.store.Given as goal
 
 abbrev pub invariant-loop-i : goal.invariant-loop-i

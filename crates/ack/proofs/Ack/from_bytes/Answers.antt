@@ -2,7 +2,6 @@
 use mathlib.Core.Path.{sym, ap, ◌∙◌}
 use Rattle.header.specs.Answers.{directive_answer}
 use Rattle.ack.proofs.Data.{refused_ack, read_ack}
-use borrow.Author.Rules.{rules}
 use Rattle.ack.proofs.Ack.from_bytes.Goals as goal
 
 pub slice_bounds-ack_in-count : goal.slice_bounds-ack_in-count

@@ -6,7 +6,6 @@ use Rattle.header.specs.Answers.{length_answer}
 use Rattle.header.proofs.Pdus.{write_refused, begun_passed, data_goes, write_done}
 use Rattle.ack.specs.Writing.{ack_data, filled, own_tests, writing_ack, ack_memory}
 use Rattle.ack.proofs.Data.{data_size, length_is}
-use borrow.Author.Rules.{rules}
 use Rattle.ack.proofs.Ack.write_to_slice.Goals as goal
 
 pub put_data-requires : goal.put_data-requires

@@ -1,6 +1,5 @@
 -- `ack::acked::direction_for` meets its contract: one comparison.
 use Rattle.ack.proofs.Codes.{to_sender, to_receiver}
-use borrow.Author.Rules.{rules}
 use Rattle.ack.proofs.acked.direction_for.Goals as goal
 
 pub returns-then-code-eq-EOF_CODE : goal.returns-then-code-eq-EOF_CODE

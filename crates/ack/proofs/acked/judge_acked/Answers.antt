@@ -1,6 +1,5 @@
 -- `ack::acked::judge_acked` meets its contract: two comparisons.
 use Rattle.ack.proofs.Codes.{acked_eof, acked_finished, acked_other}
-use borrow.Author.Rules.{rules}
 use Rattle.ack.proofs.acked.judge_acked.Goals as goal
 
 pub returns-then-code-eq-EOF_CODE : goal.returns-then-code-eq-EOF_CODE

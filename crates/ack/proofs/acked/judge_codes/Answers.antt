@@ -2,7 +2,6 @@
 use mathlib.Core.Path.{sym, ap, ◌∙◌}
 use Rattle.header.specs.Answers.{judged_answer}
 use Rattle.ack.proofs.Codes.{refused_condition, acked_decides}
-use borrow.Author.Rules.{rules}
 use Rattle.ack.proofs.acked.judge_codes.Goals as goal
 
 pub returns-in-Refused : goal.returns-in-Refused

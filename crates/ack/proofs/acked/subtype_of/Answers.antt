@@ -1,6 +1,5 @@
 -- `ack::acked::subtype_of` meets its contract: one comparison.
 use Rattle.ack.proofs.Codes.{subtype_one, subtype_none}
-use borrow.Author.Rules.{rules}
 use Rattle.ack.proofs.acked.subtype_of.Goals as goal
 
 pub returns-then-code-eq-FINISHED_CODE : goal.returns-then-code-eq-FINISHED_CODE

@@ -3,7 +3,6 @@ use mathlib.Core.Path.{sym, ap, ◌∙◌}
 use native.Mathlib.Omega.{arith}
 use Rattle.header.specs.Answers.{judged_answer}
 use Rattle.ack.proofs.Data.{ack_short, three, ack_refused, ack_read}
-use borrow.Author.Rules.{rules}
 use Rattle.ack.proofs.read.ack_in.Goals as goal
 
 pub returns-in-Refused : goal.returns-in-Refused

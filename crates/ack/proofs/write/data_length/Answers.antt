@@ -2,7 +2,6 @@
 use mathlib.Core.Path.{sym, ap, ◌∙◌}
 use Rattle.header.specs.Answers.{judged_answer}
 use Rattle.ack.proofs.Data.{bad_codes, good_codes}
-use borrow.Author.Rules.{rules}
 use Rattle.ack.proofs.write.data_length.Goals as goal
 
 pub returns-in-Refused : goal.returns-in-Refused

@@ -1,9 +1,7 @@
 -- `ack::write::put_data` meets its contract: three bytes, each behind the one before.
-use mathlib.Core.Path.{refl}
 use native.Mathlib.Omega.{arith}
 use lib.ListN.{length-set}
 use Rattle.ack.proofs.Data.{are_bytes, data_stored}
-use borrow.Author.Rules.{rules}
 use Rattle.ack.proofs.write.put_data.Goals as goal
 
 pub overflow_mul-directive : goal.overflow_mul-directive

@@ -2,7 +2,7 @@
 use mathlib.Core.Path.{sym, ap, ◌∙◌}
 use Rattle.ack.specs.Reading.{ack_answer}
 use Rattle.cfdp.specs.Shown.{ack_numbers}
-use Rattle.cfdp.proofs.Shown.{refused_shown, accepted_shown}
+use Rattle.cfdp.proofs.Shown.{refused_shown, ack_shown}
 use borrow.Author.Rules.{rules}
 use Rattle.cfdp.proofs.acks.cfdp_ack_read.Goals as goal
 
@@ -14,4 +14,6 @@ returns-in-Refused c =
 pub returns-in-Ack : goal.returns-in-Ack
 returns-in-Ack c =
     let from_bytes = c.from_bytes-read in
-    accepted_shown ack_numbers _ _ _ (ap ack_answer (sym c.in-Ack.is) ∙ from_bytes.ensures) c.show_ack.ensures
+    let bits = c.bits-bits in
+    let data-end = c.data_end-stop in
+    ack_shown _ _ _ _ _ (ap ack_answer (sym c.in-Ack.is) ∙ from_bytes.ensures) bits.ensures.0 data-end.ensures c.show_header.ensures

@@ -1,14 +1,24 @@
 -- `cfdp::compare::reader_first` meets its contract: the reader's refusal, or the one given.
 use mathlib.Core.Path.{sym, ap, ◌∙◌}
+use mathlib.Core.Bool.{Bool}
+use Rattle.fields.specs.Answer.{Answer, told, and_then}
+use Rattle.fields.specs.Refusal.{paper}
+use Rattle.fields.proofs.Judging.{told_on}
+use Rattle.nak.specs.declared.Nak.{Nak}
 use Rattle.nak.specs.Reading.{nak_answer}
-use Rattle.cfdp.proofs.Shown.{unread_shown, read_stays}
 use borrow.Author.Rules.{rules}
 use Rattle.cfdp.proofs.compare.reader_first.Goals as goal
 
 pub returns-in-Refused : goal.returns-in-Refused
 returns-in-Refused c =
+    let a = c.args in
     let from_bytes = c.from_bytes-read in
-    unread_shown _ _ _ _ (ap nak_answer (sym c.in-Refused.is) ∙ from_bytes.ensures) c.show_refusal.ensures
+    sym (told_on {A = Nak} {B = Bool} _ (λ _. told (paper a.refusal)))
+    ∙ ap (λ (o : Answer Nak). and_then {B = Bool} o (λ _. told (paper a.refusal)))
+    (ap nak_answer (sym c.in-Refused.is) ∙ from_bytes.ensures)
 
 pub returns-in-Nak : goal.returns-in-Nak
-returns-in-Nak c = read_stays _ _ _ (ap nak_answer (sym c.in-Nak.is) ∙ c.from_bytes-read.ensures)
+returns-in-Nak c =
+    let a = c.args in
+    let from_bytes = c.from_bytes-read in
+    ap (λ (o : Answer Nak). and_then {B = Bool} o (λ _. told (paper a.refusal))) (ap nak_answer (sym c.in-Nak.is) ∙ from_bytes.ensures)

@@ -14,4 +14,4 @@ returns-in-Refused c =
 pub returns-in-Nak : goal.returns-in-Nak
 returns-in-Nak c =
     let from_bytes = c.from_bytes-read in
-    accepted_shown nak_numbers _ _ _ (ap nak_answer (sym c.in-Nak.is) ∙ from_bytes.ensures) c.show_nak.ensures
+    accepted_shown nak_numbers _ _ _ (ap nak_answer (sym c.in-Nak.is) ∙ from_bytes.ensures) c.show_header.ensures

@@ -17,4 +17,4 @@ returns-in-Refused c = c.show_refusal.ensures ∙ ap (λ (o : Outcome). outcome_
 
 pub returns-in-Nak : goal.returns-in-Nak
 unfolding outcome_shown
-returns-in-Nak c = c.show_nak.ensures ∙ ap (λ (o : Outcome). outcome_shown (outcome_of o)) (sym c.in-Nak.is)
+returns-in-Nak c = c.show_header.ensures ∙ ap (λ (o : Outcome). outcome_shown (outcome_of o)) (sym c.in-Nak.is)

@@ -2,7 +2,6 @@
 use mathlib.Core.Path.{sym, ap, ◌∙◌}
 use Rattle.header.specs.Answers.{directive_answer}
 use Rattle.eof.proofs.Data.{refused_eof, read_eof}
-use borrow.Author.Rules.{rules}
 use Rattle.eof.proofs.Eof.from_bytes.Goals as goal
 
 pub slice_bounds-eof_in-count : goal.slice_bounds-eof_in-count

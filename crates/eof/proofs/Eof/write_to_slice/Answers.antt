@@ -5,7 +5,6 @@ use Rattle.header.specs.Answers.{length_answer}
 use Rattle.header.proofs.Pdus.{write_refused, begun_passed, data_goes, write_done}
 use Rattle.eof.specs.Writing.{eof_data, filled, own_tests, writing_eof, eof_memory}
 use Rattle.eof.proofs.Data.{size_of, length_is}
-use borrow.Author.Rules.{rules}
 use Rattle.eof.proofs.Eof.write_to_slice.Goals as goal
 
 pub put_data-requires : goal.put_data-requires

@@ -1,8 +1,6 @@
 -- `eof::fault::fault_in` meets its contract: nothing, a field of an allowed width, or something else.
 use mathlib.Core.Path.{sym, ◌∙◌}
-use borrow.Author.Tests.{not-true, not-false}
 use Rattle.eof.proofs.Faults.{fault_nowhere, fault_other, fault_found}
-use borrow.Author.Rules.{rules}
 use Rattle.eof.proofs.fault.fault_in.Goals as goal
 
 pub returns-then-rest-eq0 : goal.returns-then-rest-eq0

@@ -2,7 +2,6 @@
 use mathlib.Core.Path.{sym, ◌∙◌}
 use native.Mathlib.Omega.{arith}
 use Rattle.eof.proofs.Faults.{no_width, only_width, only_forwards, only_byte}
-use borrow.Author.Rules.{rules}
 use Rattle.eof.proofs.fault.field_width.Goals as goal
 
 pub overflow_sub-result : goal.overflow_sub-result

@@ -4,7 +4,6 @@ use native.Mathlib.Omega.{arith}
 use Rattle.header.specs.Answers.{judged_answer}
 use Rattle.eof.specs.Fault.{fault_answer}
 use Rattle.eof.proofs.Data.{eof_short, long_enough, eof_reserved, eof_other, eof_read}
-use borrow.Author.Rules.{rules}
 use Rattle.eof.proofs.read.eof_in.Goals as goal
 
 pub returns-in-Refused : goal.returns-in-Refused

@@ -2,7 +2,6 @@
 use mathlib.Core.Path.{sym, ap, ◌∙◌}
 use Rattle.header.specs.Answers.{judged_answer}
 use Rattle.eof.proofs.Data.{no_length, has_length}
-use borrow.Author.Rules.{rules}
 use Rattle.eof.proofs.write.data_length.Goals as goal
 
 pub returns-in-Refused : goal.returns-in-Refused

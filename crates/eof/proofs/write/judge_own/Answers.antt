@@ -2,7 +2,6 @@
 use mathlib.Core.Path.{sym, ap, ◌∙◌}
 use Rattle.header.specs.Answers.{judged_answer}
 use Rattle.eof.proofs.Data.{bad_condition, bad_size, fault_decides}
-use borrow.Author.Rules.{rules}
 use Rattle.eof.proofs.write.judge_own.Goals as goal
 
 pub returns-in-Refused : goal.returns-in-Refused

@@ -5,7 +5,6 @@ use lib.ListN.{length, length-set}
 use lib.Seq.{length-sets}
 use Rattle.eof.specs.Writing.{eof_data, eof_size}
 use Rattle.eof.proofs.Data.{good, fault_goes, data_stored}
-use borrow.Author.Rules.{rules}
 use Rattle.eof.proofs.write.put_data.Goals as goal
 
 pub overflow_mul-condition : goal.overflow_mul-condition

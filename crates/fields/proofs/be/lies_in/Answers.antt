@@ -1,5 +1,4 @@
 -- `fields::be::lies_in` meets its contract: with the width at most 8 and at most the length, the difference is exact.
-use borrow.Author.Rules.{rules}
 use Rattle.fields.proofs.BigEndian.{lies_wide, lies_short, lies_at}
 use Rattle.fields.proofs.be.lies_in.Goals as goal
 

@@ -1,11 +1,8 @@
 -- `fields::be::number_at` meets its contract. The loop's invariant: the value so far and the bytes that are left give the number, and the value has as many bytes as were read.
-use mathlib.Core.Path.{◌≡◌, ◌∙◌}
+use mathlib.Core.Path.{◌≡◌}
 use Prim.Native.Nat.{◌+◌, ◌-◌, ◌^◌, ◌≤◌, ◌<◌}
-use native.Mathlib.Omega.{arith}
-use borrow.Author.Rules.{rules}
 use lib.ListN.{take, drop}
 use Rattle.fields.specs.BigEndian.{be_from, number_at}
-use Rattle.fields.proofs.BigEndian.{room, grows, read_start, read_turn, read_done}
 use Rattle.fields.proofs.be.number_at.Given as goal
 
 abbrev pub invariant-loop-i : goal.invariant-loop-i

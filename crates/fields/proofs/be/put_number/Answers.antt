@@ -1,10 +1,8 @@
 -- `fields::be::put_number` meets its contract. The loop's invariant: to write what is left gives what is to be written.
-use mathlib.Core.Path.{◌≡◌, ◌∙◌}
-use Prim.Native.Nat.{◌≤◌}
+use mathlib.Core.Path.{◌∙◌}
 use native.Mathlib.Omega.{arith}
 use borrow.Author.Rules.{rules}
-use lib.ListN.{length, length-set}
-use Rattle.fields.specs.BigEndian.{overwritten}
+use lib.ListN.{length-set}
 use Rattle.fields.proofs.BigEndian.{put_turn, put_done}
 use Rattle.fields.proofs.be.put_number.Goals as goal
 

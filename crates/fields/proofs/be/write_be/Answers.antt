@@ -1,8 +1,5 @@
 -- `fields::be::write_be` meets its contract: the cases of `be_put`.
 use mathlib.Core.Path.{sym, ◌∙◌}
-use native.Mathlib.Omega.{arith}
-use borrow.Author.Rules.{rules}
-use borrow.Author.Tests.{not-true, not-false}
 use Rattle.fields.proofs.BigEndian.{lies, put_nowhere, put_nothing, put_some}
 use Rattle.fields.proofs.be.write_be.Goals as goal
 

@@ -1,12 +1,8 @@
 -- `fields::crc::checksum` meets its contract. The loop's invariant: the register, which is the two bytes, and the bytes that are left give the checksum of the whole.
-use mathlib.Core.Path.{◌≡◌, refl, sym, ap, ◌∙◌}
+use mathlib.Core.Path.{◌≡◌}
 use Prim.Native.Nat.{◌+◌, ◌*◌, ◌≤◌, ◌<◌, ◌-◌}
-use native.Mathlib.Omega.{arith}
-use borrow.Author.Rules.{rules}
 use lib.ListN.{length, drop}
-use Rattle.fields.specs.Checksum.{checksum_from, checksum_of, entry}
-use Rattle.fields.proofs.Checksum.{checksum_done}
-use Rattle.fields.proofs.Table.{entries_at, entries_lt, upper_lt, table_turn}
+use Rattle.fields.specs.Checksum.{checksum_from, checksum_of}
 use Rattle.fields.proofs.crc.checksum.Given as goal
 
 abbrev pub invariant-loop-i : goal.invariant-loop-i

@@ -2,7 +2,6 @@
 use mathlib.Core.Path.{sym, ap, ◌∙◌}
 use Rattle.header.specs.Answers.{length_answer}
 use Rattle.header.proofs.Pdus.{storable, nothing_begun, header_begun}
-use borrow.Author.Rules.{rules}
 use Rattle.header.proofs.PduHeader.begin_write.Goals as goal
 
 pub put_header-requires : goal.put_header-requires

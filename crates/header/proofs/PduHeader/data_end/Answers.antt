@@ -1,6 +1,5 @@
 -- `header::PduHeader::data_end` meets its contract: P, less a checksum.
 use Rattle.header.proofs.Verifying.{end_from}
-use borrow.Author.Rules.{rules}
 use Rattle.header.proofs.PduHeader.data_end.Goals as goal
 
 pub overflow_sub-result : goal.overflow_sub-result

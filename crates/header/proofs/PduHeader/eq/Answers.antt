@@ -1,8 +1,7 @@
 -- `header::PduHeader::eq` meets its contract: the first part that differs decides.
 use mathlib.Core.Path.{sym, ◌∙◌}
-use borrow.Author.Tests.{not-true, not-false, eq-eqb, ne_eqb}
+use borrow.Author.Tests.{eq-eqb, ne_eqb}
 use Rattle.header.specs.Comparing.{same_header}
-use borrow.Author.Rules.{rules}
 use Rattle.header.proofs.PduHeader.eq.Goals as goal
 
 pub returns-then-not-same_flags : goal.returns-then-not-same_flags

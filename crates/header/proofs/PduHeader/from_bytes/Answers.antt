@@ -2,7 +2,6 @@
 use mathlib.Core.Path.{sym, ap, ◌∙◌}
 use lib.Seq.{length-take-le}
 use Rattle.fields.specs.Answer.{accepted}
-use borrow.Author.Rules.{rules}
 use Rattle.header.proofs.PduHeader.from_bytes.Goals as goal
 
 pub slice_bounds-header_in-end : goal.slice_bounds-header_in-end

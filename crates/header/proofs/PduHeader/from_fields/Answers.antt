@@ -1,6 +1,5 @@
 -- `header::PduHeader::from_fields` meets its contract: the widths differ, or the record is that of the parts.
 use Rattle.header.proofs.Judging.{widths_differ_lem, widths_agree}
-use borrow.Author.Rules.{rules}
 use Rattle.header.proofs.PduHeader.from_fields.Goals as goal
 
 pub returns-then-source-destination : goal.returns-then-source-destination

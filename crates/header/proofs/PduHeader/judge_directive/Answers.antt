@@ -2,7 +2,6 @@
 use mathlib.Core.Path.{refl, sym, ap, ◌∙◌}
 use Rattle.header.specs.Answers.{judged_answer}
 use Rattle.header.proofs.Directives.{least_short, no_directive, no_code, code_there}
-use borrow.Author.Rules.{rules}
 use Rattle.header.proofs.PduHeader.judge_directive.Goals as goal
 
 pub returns-in-Refused : goal.returns-in-Refused

@@ -1,6 +1,5 @@
 -- `header::PduHeader::judge_type` meets its contract: the type decides.
 use Rattle.header.proofs.Directives.{file_data, a_directive}
-use borrow.Author.Rules.{rules}
 use Rattle.header.proofs.PduHeader.judge_type.Goals as goal
 
 pub returns-in-FileData : goal.returns-in-FileData

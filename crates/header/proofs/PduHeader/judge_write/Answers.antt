@@ -4,7 +4,6 @@ use Rattle.header.specs.declared.pdu.DataLength.{DataLength}
 use Rattle.header.specs.Answers.{judged_answer}
 use Rattle.header.specs.Pdu.{data_answer, beginning}
 use Rattle.header.proofs.Pdus.{record_refused, own_refused, no_room_for, room_for}
-use borrow.Author.Rules.{rules}
 use Rattle.header.proofs.PduHeader.judge_write.Goals as goal
 
 pub returns-in-Refused : goal.returns-in-Refused

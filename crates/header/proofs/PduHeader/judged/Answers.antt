@@ -1,7 +1,6 @@
 -- `header::PduHeader::judged` meets its contract: each test's answer is the judgement's.
 use mathlib.Core.Path.{sym, ap, ◌∙◌}
 use mathlib.Core.List.{[], ◌∷◌}
-use borrow.Author.Tests.{not-true, not-false}
 use Rattle.fields.specs.declared.field.UnsignedByteField.{UnsignedByteField}
 use Rattle.fields.specs.Width.{fits_field}
 use Rattle.fields.specs.Answer.{told}
@@ -10,7 +9,6 @@ use Rattle.header.specs.declared.HeaderResult.TheVariants.{Refused}
 use Rattle.header.specs.Answers.{header_answer, judged_answer}
 use Rattle.header.specs.Judging.{width_tests}
 use Rattle.header.proofs.Judging.{bad_widths, large_source, large_sequence, large_destination, all_right}
-use borrow.Author.Rules.{rules}
 use Rattle.header.proofs.PduHeader.judged.Goals as goal
 
 pub returns-in-Refused : goal.returns-in-Refused

@@ -3,7 +3,6 @@ use mathlib.Core.Path.{sym, ap, ◌∙◌}
 use Rattle.header.specs.Answers.{header_answer}
 use Rattle.header.proofs.Judging.{passed_tests}
 use Rattle.header.proofs.Pdus.{refused_record, type_decides}
-use borrow.Author.Rules.{rules}
 use Rattle.header.proofs.PduHeader.judged_directive.Goals as goal
 
 pub returns-in-Refused : goal.returns-in-Refused

@@ -2,7 +2,6 @@
 use mathlib.Core.Path.{sym, ap, ◌∙◌}
 use Rattle.header.specs.Answers.{header_answer}
 use Rattle.header.proofs.Judging.{refused_building, joined_building}
-use borrow.Author.Rules.{rules}
 use Rattle.header.proofs.PduHeader.new_generic.Goals as goal
 
 pub returns-in-Refused : goal.returns-in-Refused

@@ -1,7 +1,6 @@
 -- `header::PduHeader::pdu_len` meets its contract: the header and the data field.
 use mathlib.Core.Path.{ap}
 use Prim.Native.Nat.{ℕ, ◌+◌}
-use native.Mathlib.Omega.{arith}
 use Rattle.header.specs.Header.{header_length, pdu_length}
 use borrow.Author.Rules.{rules}
 use Rattle.header.proofs.PduHeader.pdu_len.Goals as goal

@@ -1,6 +1,5 @@
 -- `header::PduHeader::seal` meets its contract: the checksum goes where the data ends.
 use Rattle.header.proofs.Pdus.{sealed_is}
-use borrow.Author.Rules.{rules}
 use Rattle.header.proofs.PduHeader.seal.Goals as goal
 
 pub returns : goal.returns

@@ -3,7 +3,6 @@ use mathlib.Core.Path.{sym, ap, ◌∙◌}
 use Rattle.header.specs.Answers.{length_answer}
 use Rattle.header.proofs.Verifying.{verified}
 use Rattle.header.proofs.Directives.{refused_verified, short_9, tests_decide}
-use borrow.Author.Rules.{rules}
 use Rattle.header.proofs.PduHeader.verify_directive.Goals as goal
 
 pub returns-then-buf-lt-LEAST_LEN : goal.returns-then-buf-lt-LEAST_LEN

@@ -3,7 +3,6 @@ use mathlib.Core.Path.{sym, ap, ◌∙◌}
 use Rattle.header.specs.Answers.{header_answer}
 use Rattle.header.proofs.Judging.{passed_tests}
 use Rattle.header.proofs.Verifying.{refused_verify, passed_verify}
-use borrow.Author.Rules.{rules}
 use Rattle.header.proofs.PduHeader.verify_length_and_checksum.Goals as goal
 
 pub returns-in-Refused : goal.returns-in-Refused

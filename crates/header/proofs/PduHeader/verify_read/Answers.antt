@@ -4,7 +4,6 @@ use native.Mathlib.Omega.{arith}
 use lib.Seq.{length-take-le}
 use Rattle.header.specs.Answers.{length_answer}
 use Rattle.header.proofs.Verifying.{at_least, short_p, no_checksum, bad_checksum, good_checksum}
-use borrow.Author.Rules.{rules}
 use Rattle.header.proofs.PduHeader.verify_read.Goals as goal
 
 pub returns-then-buf-len : goal.returns-then-buf-len

@@ -3,7 +3,6 @@ use mathlib.Core.Path.{sym, ap, ◌∙◌}
 use Rattle.header.specs.declared.pdu.DataLength.{DataLength}
 use Rattle.header.specs.Pdu.{data_answer, with_data}
 use Rattle.header.proofs.Pdus.{refused_data}
-use borrow.Author.Rules.{rules}
 use Rattle.header.proofs.PduHeader.with_data.Goals as goal
 
 pub returns-in-Refused : goal.returns-in-Refused

@@ -3,7 +3,6 @@ use mathlib.Core.Path.{sym, ap, ◌∙◌}
 use Rattle.header.specs.Answers.{length_answer}
 use Rattle.header.proofs.Judging.{sound}
 use Rattle.header.proofs.Writing.{refused_write, written_passed, written_room, accepted_write}
-use borrow.Author.Rules.{rules}
 use Rattle.header.proofs.PduHeader.write_to_slice.Goals as goal
 
 pub put_header-requires : goal.put_header-requires

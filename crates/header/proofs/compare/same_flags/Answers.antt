@@ -1,6 +1,5 @@
 -- `header::compare::same_flags` meets its contract: each flag has a bit of its own in the two numbers.
 use Rattle.header.proofs.Comparing.{same_bits}
-use borrow.Author.Rules.{rules}
 use Rattle.header.proofs.compare.same_flags.Goals as goal
 
 pub returns : goal.returns

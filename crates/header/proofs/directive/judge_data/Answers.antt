@@ -1,6 +1,5 @@
 -- `header::directive::judge_data` meets its contract: where the data ends decides.
 use Rattle.header.proofs.Directives.{data_short_lem, data_reaches}
-use borrow.Author.Rules.{rules}
 use Rattle.header.proofs.directive.judge_data.Goals as goal
 
 pub returns-then-stop-expected : goal.returns-then-stop-expected

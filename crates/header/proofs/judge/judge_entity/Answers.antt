@@ -1,11 +1,9 @@
 -- `header::judge::judge_entity` meets its contract: the width's answer, or that of the value.
 use mathlib.Core.Path.{sym, ap, ◌∙◌}
-use borrow.Author.Tests.{not-true, not-false}
 use Rattle.fields.specs.Answer.{told}
 use Rattle.fields.specs.Refusal.{paper}
 use Rattle.header.specs.Answers.{judged_answer}
 use Rattle.header.proofs.Judging.{refused_width, bad_id, good_id}
-use borrow.Author.Rules.{rules}
 use Rattle.header.proofs.judge.judge_entity.Goals as goal
 
 pub returns-in-Refused : goal.returns-in-Refused

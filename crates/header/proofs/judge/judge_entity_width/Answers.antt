@@ -1,8 +1,6 @@
 -- `header::judge::judge_entity_width` meets its contract: the width is one, or that is the answer.
 use mathlib.Core.Path.{sym, ◌∙◌}
-use borrow.Author.Tests.{not-true, not-false}
 use Rattle.header.proofs.Judging.{bad_entity, good_entity}
-use borrow.Author.Rules.{rules}
 use Rattle.header.proofs.judge.judge_entity_width.Goals as goal
 
 pub returns-then-not-is_width : goal.returns-then-not-is_width

@@ -1,9 +1,7 @@
 -- `header::judge::judge_widths` meets its contract: the first width that is none is the answer.
 use mathlib.Core.Path.{sym, ap, ◌∙◌}
-use borrow.Author.Tests.{not-true, not-false}
 use Rattle.header.specs.Answers.{judged_answer}
 use Rattle.header.proofs.Judging.{refused_entity, bad_sequence, both_widths}
-use borrow.Author.Rules.{rules}
 use Rattle.header.proofs.judge.judge_widths.Goals as goal
 
 pub returns-in-Refused : goal.returns-in-Refused

@@ -4,7 +4,6 @@ use Prim.Native.Nat.{ℕ, ◌/◌, ◌^◌}
 use lib.Bits.{and_mask}
 use lib.Dec.{eqb}
 use Rattle.header.specs.Reading.{is_set}
-use borrow.Author.Rules.{rules}
 use Rattle.header.proofs.read.bit_at.Goals as goal
 
 pub returns : goal.returns

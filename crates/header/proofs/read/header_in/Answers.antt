@@ -3,7 +3,6 @@ use mathlib.Core.Path.{ap, ◌∙◌}
 use native.Mathlib.Omega.{arith}
 use Rattle.header.specs.Flags.{pdu_type_if, direction_if, mode_if, crc_if, file_if, control_if, metadata_if}
 use Rattle.header.proofs.Reading.{header_is}
-use borrow.Author.Rules.{rules}
 use Rattle.header.proofs.read.header_in.Goals as goal
 
 pub returns : goal.returns

@@ -7,7 +7,6 @@ use Rattle.fields.proofs.Judging.{passed}
 use Rattle.header.specs.Answers.{judged_answer}
 use Rattle.header.specs.Judging.{width_tests}
 use Rattle.header.proofs.Reading.{short_4, bad_version, bad_widths, short_h, whole, holds}
-use borrow.Author.Rules.{rules}
 use Rattle.header.proofs.read.length_in.Goals as goal
 
 pub returns-then-n-lt-FIXED_HEADER_LEN : goal.returns-then-n-lt-FIXED_HEADER_LEN

@@ -1,6 +1,5 @@
 -- `header::read::three_at` meets its contract: a mask of three ones is the remainder by 8.
 use lib.Bits.{and_mask}
-use borrow.Author.Rules.{rules}
 use Rattle.header.proofs.read.three_at.Goals as goal
 
 pub returns : goal.returns

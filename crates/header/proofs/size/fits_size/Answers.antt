@@ -1,6 +1,5 @@
 -- `header::size::fits_size` meets its contract: the width is that of the flag.
 use Rattle.header.proofs.Sizes.{fits_is}
-use borrow.Author.Rules.{rules}
 use Rattle.header.proofs.size.fits_size.Goals as goal
 
 pub returns : goal.returns

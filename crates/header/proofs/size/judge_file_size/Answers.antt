@@ -1,8 +1,6 @@
 -- `header::size::judge_file_size` meets its contract: whether it fits decides.
 use mathlib.Core.Path.{sym, ◌∙◌}
-use borrow.Author.Tests.{not-true, not-false}
 use Rattle.header.proofs.Sizes.{size_too_large_lem, size_goes}
-use borrow.Author.Rules.{rules}
 use Rattle.header.proofs.size.judge_file_size.Goals as goal
 
 pub returns-then-not-fits_size : goal.returns-then-not-fits_size

@@ -1,10 +1,8 @@
 -- `header::size::read_size` meets its contract: what does not lie in the slice reads as 0, and in a part of just its bytes a number is the slice's.
 use mathlib.Core.Path.{refl, sym, ◌∙◌}
 use native.Mathlib.Omega.{arith}
-use borrow.Author.Tests.{not-true, not-false}
 use Rattle.header.specs.declared.flags.LargeFileFlag.TheVariants.{Normal, Large}
 use Rattle.header.proofs.Sizes.{size_nowhere, size_inside, size_read}
-use borrow.Author.Rules.{rules}
 use Rattle.header.proofs.size.read_size.Goals as goal
 
 pub returns-then-not-lies_in : goal.returns-then-not-lies_in

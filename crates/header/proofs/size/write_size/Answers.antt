@@ -2,7 +2,6 @@
 use mathlib.Core.Path.{refl}
 use Rattle.header.specs.declared.flags.LargeFileFlag.TheVariants.{Normal, Large}
 use Rattle.header.proofs.Sizes.{put_is}
-use borrow.Author.Rules.{rules}
 use Rattle.header.proofs.size.write_size.Goals as goal
 
 pub returns-in-Normal : goal.returns-in-Normal

@@ -3,7 +3,6 @@ use mathlib.Core.Path.{sym}
 use native.Mathlib.Omega.{arith}
 use lib.Seq.{length-take-le}
 use Rattle.header.proofs.Verifying.{no_crc, crc_nowhere, with_crc}
-use borrow.Author.Rules.{rules}
 use Rattle.header.proofs.verify.add_pdu_crc.Goals as goal
 
 pub returns-in-NoCrc : goal.returns-in-NoCrc

@@ -1,7 +1,6 @@
 -- `header::write::beside` meets its contract: the shift multiplies, and the or adds what lies below it.
 use lib.Bits.{or_shifted}
 use native.Mathlib.Nat.{mod-eq_of_lt}
-use borrow.Author.Rules.{rules}
 use Rattle.header.proofs.write.beside.Goals as goal
 
 pub returns : goal.returns

@@ -1,7 +1,6 @@
 -- `header::write::first_byte` meets its contract: bits set beside each other are the sum of their values.
 use native.Mathlib.Omega.{arith}
 use Rattle.header.specs.Header.{first_byte}
-use borrow.Author.Rules.{rules}
 use Rattle.header.proofs.write.first_byte.Goals as goal
 
 pub returns : goal.returns

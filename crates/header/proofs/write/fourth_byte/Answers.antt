@@ -1,7 +1,6 @@
 -- `header::write::fourth_byte` meets its contract: bits set beside each other are the sum of their values.
 use native.Mathlib.Omega.{arith}
 use Rattle.header.specs.Header.{fourth_byte}
-use borrow.Author.Rules.{rules}
 use Rattle.header.proofs.write.fourth_byte.Goals as goal
 
 pub returns : goal.returns

@@ -1,6 +1,5 @@
 -- `header::write::judge_room` meets its contract: the room decides.
 use Rattle.header.proofs.Writing.{no_room_lem, has_room}
-use borrow.Author.Rules.{rules}
 use Rattle.header.proofs.write.judge_room.Goals as goal
 
 pub returns-then-found-expected : goal.returns-then-found-expected

@@ -1,7 +1,6 @@
 -- `header::write::put_header` meets its contract: six fields, each behind the one before.
 use native.Mathlib.Omega.{arith}
 use Rattle.header.proofs.Writing.{fields_put}
-use borrow.Author.Rules.{rules}
 use Rattle.header.proofs.write.put_header.Goals as goal
 
 pub returns : goal.returns

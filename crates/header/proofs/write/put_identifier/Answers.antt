@@ -1,6 +1,5 @@
 -- `header::write::put_identifier` meets its contract: whichever width was found, it is the one that was asked for.
 use Rattle.header.proofs.Writing.{put_by_width}
-use borrow.Author.Rules.{rules}
 use Rattle.header.proofs.write.put_identifier.Goals as goal
 
 pub returns-then-width-eq1 : goal.returns-then-width-eq1

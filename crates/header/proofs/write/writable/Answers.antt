@@ -6,7 +6,6 @@ use Rattle.header.specs.Answers.{header_answer, judged_answer}
 use Rattle.header.specs.Writing.{no_room}
 use Rattle.header.proofs.Judging.{passed_tests}
 use Rattle.header.proofs.Writing.{refused_record, short_of_h, enough}
-use borrow.Author.Rules.{rules}
 use Rattle.header.proofs.write.writable.Goals as goal
 
 pub returns-in-Refused : goal.returns-in-Refused

@@ -2,7 +2,6 @@
 use mathlib.Core.Path.{sym, ap, ◌∙◌}
 use Rattle.header.specs.Answers.{directive_answer}
 use Rattle.metadata.proofs.Data.{refused_metadata, read_metadata}
-use borrow.Author.Rules.{rules}
 use Rattle.metadata.proofs.Metadata.from_bytes.Goals as goal
 
 pub slice_bounds-metadata_in-count : goal.slice_bounds-metadata_in-count

@@ -4,7 +4,6 @@ use Rattle.header.specs.Answers.{length_answer}
 use Rattle.header.proofs.Pdus.{write_refused, begun_passed, data_goes, write_done}
 use Rattle.metadata.specs.Writing.{metadata_data, filled, own_tests, writing_metadata, metadata_memory}
 use Rattle.metadata.proofs.Data.{length_is}
-use borrow.Author.Rules.{rules}
 use Rattle.metadata.proofs.MetadataParams.write_to_slice.Goals as goal
 
 pub put_data-requires : goal.put_data-requires

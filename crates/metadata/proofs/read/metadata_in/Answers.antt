@@ -4,7 +4,6 @@ use native.Mathlib.Omega.{arith}
 use Rattle.header.specs.Answers.{judged_answer}
 use Rattle.metadata.specs.Reading.{names_answer}
 use Rattle.metadata.proofs.Data.{data_short_lem, long_enough, type_refused, names_refused, metadata_read}
-use borrow.Author.Rules.{rules}
 use Rattle.metadata.proofs.read.metadata_in.Goals as goal
 
 pub returns-in-Refused : goal.returns-in-Refused

@@ -1,7 +1,6 @@
 -- `metadata::read::names_in` meets its contract: source, destination and options, one behind the other.
 use mathlib.Core.Path.{sym, ◌∙◌}
 use Rattle.metadata.proofs.Names.{source_fits, source_cut, source_goes, destination_fits, destination_cut, destination_goes, option_fits, option_cut_lem, names_found}
-use borrow.Author.Rules.{rules}
 use Rattle.metadata.proofs.read.names_in.Goals as goal
 
 pub cut_at-requires : goal.cut_at-requires

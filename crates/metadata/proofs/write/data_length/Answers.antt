@@ -3,7 +3,6 @@ use mathlib.Core.Path.{sym, ap, ◌∙◌}
 use native.Mathlib.Omega.{arith}
 use Rattle.header.specs.Answers.{judged_answer}
 use Rattle.metadata.proofs.Data.{fixed_refused, lent_refused, names_short, too_large_lem, has_length}
-use borrow.Author.Rules.{rules}
 use Rattle.metadata.proofs.write.data_length.Goals as goal
 
 pub returns-in-Refused : goal.returns-in-Refused

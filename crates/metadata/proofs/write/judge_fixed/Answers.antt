@@ -2,7 +2,6 @@
 use mathlib.Core.Path.{sym, ap, ◌∙◌}
 use Rattle.header.specs.Answers.{judged_answer}
 use Rattle.metadata.proofs.Data.{bad_type, size_decides}
-use borrow.Author.Rules.{rules}
 use Rattle.metadata.proofs.write.judge_fixed.Goals as goal
 
 pub returns-in-Refused : goal.returns-in-Refused

@@ -1,7 +1,6 @@
 -- `metadata::write::judge_lent` meets its contract: both names, then the options.
 use mathlib.Core.Path.{sym, ◌∙◌}
 use Rattle.metadata.proofs.Data.{long_source, long_destination, cut_option, lent_passes}
-use borrow.Author.Rules.{rules}
 use Rattle.metadata.proofs.write.judge_lent.Goals as goal
 
 pub returns-then-source-gt-MAX_NAME : goal.returns-then-source-gt-MAX_NAME

@@ -1,6 +1,5 @@
 -- `metadata::write::put_data` meets its contract: what goes in as numbers, and behind it what is lent.
 use Rattle.metadata.proofs.Data.{fixed_room, fixed_passed, lent_room, lent_passed, data_stored}
-use borrow.Author.Rules.{rules}
 use Rattle.metadata.proofs.write.put_data.Goals as goal
 
 pub put_fixed-requires : goal.put_fixed-requires

@@ -6,7 +6,6 @@ use lib.ListN.{length, length-set}
 use lib.Seq.{length-sets}
 use Rattle.metadata.specs.Writing.{fixed_data}
 use Rattle.metadata.proofs.Data.{fixed_good, fixed_size, fixed_stored}
-use borrow.Author.Rules.{rules}
 use Rattle.metadata.proofs.write.put_fixed.Goals as goal
 
 pub overflow_add-byte : goal.overflow_add-byte

@@ -1,7 +1,6 @@
 -- `metadata::write::put_lent` meets its contract: two names and the options, each behind the one before.
 use native.Mathlib.Omega.{arith}
 use Rattle.metadata.proofs.Data.{lent_size, lent_stored}
-use borrow.Author.Rules.{rules}
 use Rattle.metadata.proofs.write.put_lent.Goals as goal
 
 pub overflow_add-last : goal.overflow_add-last

@@ -1,8 +1,10 @@
--- `replay::list::large` is safe: the count does not exceed the array's length.
-use mathlib.Core.Path.{sym}
-use lib.Seq.{length-take-le}
+-- `replay::list::large` meets its contract: a store keeps the length, which the count does not exceed.
+use Prim.Native.Nat.{◌≤◌, ◌-◌}
+use mathlib.Core.Path.{◌≡◌}
+use lib.ListN.{length}
 use borrow.Author.Rules.{rules}
+use Rattle.replay.proofs.Counting.{counts}
 use Rattle.replay.proofs.list.large.Goals as goal
 
-pub slice_bounds-part-end : goal.slice_bounds-part-end
-slice_bounds-part-end c = sym (length-take-le _ _ c.count-n.ensures)
+pub returns : goal.returns
+returns c = counts _ _ (search rules)

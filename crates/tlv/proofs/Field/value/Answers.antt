@@ -1,5 +1,4 @@
 -- `tlv::Field::value` meets its contract: the part of the bytes, or none.
-use borrow.Author.Rules.{rules}
 use Rattle.tlv.proofs.Reading.{backwards, beyond, within}
 use Rattle.tlv.proofs.Field.value.Goals as goal
 

@@ -1,6 +1,5 @@
 -- `tlv::read::behind_field` meets its contract: head and value lie in the area, or the place stays.
 use native.Mathlib.Omega.{arith}
-use borrow.Author.Rules.{rules}
 use Rattle.tlv.proofs.Reading.{stops, behind_cut}
 use Rattle.tlv.proofs.read.behind_field.Goals as goal
 

@@ -1,6 +1,5 @@
 -- `tlv::read::field_in` meets its contract: the place behind is another exactly where a whole field stands.
 use native.Mathlib.Omega.{arith}
-use borrow.Author.Rules.{rules}
 use Rattle.tlv.proofs.Reading.{other_place, cut_here, field_here}
 use Rattle.tlv.proofs.read.field_in.Goals as goal
 

@@ -1,6 +1,5 @@
 -- `tlv::read::length_at` meets its contract: the number behind the type.
 use native.Mathlib.Omega.{arith}
-use borrow.Author.Rules.{rules}
 use Rattle.tlv.proofs.Reading.{length_read}
 use Rattle.tlv.proofs.read.length_at.Goals as goal
 

@@ -1,6 +1,5 @@
 -- `tlv::read::only_field` meets its contract: what is read there, with its type and its stop tested.
 use mathlib.Core.Path.{sym, ◌∙◌}
-use borrow.Author.Rules.{rules}
 use Rattle.tlv.proofs.Reading.{only_cut, other_type, more_behind, the_only}
 use Rattle.tlv.proofs.read.only_field.Goals as goal
 

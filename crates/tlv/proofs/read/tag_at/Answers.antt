@@ -1,5 +1,4 @@
 -- `tlv::read::tag_at` meets its contract: the number of a byte, or of none.
-use borrow.Author.Rules.{rules}
 use Rattle.tlv.proofs.Reading.{tag_read, tag_small}
 use Rattle.tlv.proofs.read.tag_at.Goals as goal
 

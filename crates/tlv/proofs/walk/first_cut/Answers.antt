@@ -1,11 +1,6 @@
 -- `tlv::walk::first_cut` meets its contract. The loop's invariant: from here whole fields reach as far as from the start, and `next` is the place behind the field here.
-use Prim.Native.Nat.{◌-◌, ◌≤◌}
-use mathlib.Core.Path.{◌≡◌, refl}
+use mathlib.Core.Path.{refl}
 use native.Mathlib.Omega.{arith}
-use lib.ListN.{length}
-use borrow.Author.Rules.{rules}
-use Rattle.tlv.specs.Within.{behind}
-use Rattle.tlv.specs.Walking.{reach}
 use Rattle.tlv.proofs.Walking.{behind_le, behind_in, cut_turn, cut_none, cut_some}
 use Rattle.tlv.proofs.walk.first_cut.Goals as goal
 

@@ -1,7 +1,6 @@
 -- `tlv::write::put_bytes` meets its contract: the bytes lie in the buffer and are stored, or nothing changes.
 use mathlib.Core.Path.{sym, ◌∙◌}
-use borrow.Author.Tests.{leb-true, not-true, not-false}
-use borrow.Author.Rules.{rules}
+use borrow.Author.Tests.{leb-true}
 use Rattle.tlv.proofs.Writing.{bytes_stay, bytes_stored}
 use Rattle.tlv.proofs.write.put_bytes.Goals as goal
 

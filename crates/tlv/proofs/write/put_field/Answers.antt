@@ -1,7 +1,5 @@
 -- `tlv::write::put_field` meets its contract: the field fits and lies in the buffer and is stored, or nothing changes.
 use mathlib.Core.Path.{sym, ◌∙◌}
-use borrow.Author.Tests.{not-true, not-false}
-use borrow.Author.Rules.{rules}
 use Rattle.tlv.proofs.Writing.{too_long, no_room_lem, let_through, field_put_lem}
 use Rattle.tlv.proofs.write.put_field.Goals as goal
 

@@ -1,7 +1,5 @@
 -- `tlv::write::put_number` meets its contract: the number's bytes are the value of a field, or nothing changes.
 use mathlib.Core.Path.{refl, sym, ◌∙◌}
-use borrow.Author.Tests.{not-true, not-false}
-use borrow.Author.Rules.{rules}
 use Rattle.tlv.proofs.Writing.{front_counted, number_put_lem, number_wide, number_misfit}
 use Rattle.tlv.proofs.write.put_number.Goals as goal
 

@@ -1,6 +1,5 @@
 -- `ack::status::TransactionStatus::from_bits` meets its contract: each number gives its status.
 use Rattle.ack.proofs.Codes.{status_0, status_1, status_2, status_3}
-use borrow.Author.Rules.{rules}
 use Rattle.ack.proofs.status.TransactionStatus.from_bits.Goals as goal
 
 pub returns-then-bits-eq0 : goal.returns-then-bits-eq0

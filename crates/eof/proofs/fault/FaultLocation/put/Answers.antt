@@ -1,6 +1,5 @@
 -- `eof::fault::FaultLocation::put` meets its contract: nothing, or one field.
 use Rattle.eof.proofs.Faults.{fault_stored}
-use borrow.Author.Rules.{rules}
 use Rattle.eof.proofs.fault.FaultLocation.put.Goals as goal
 
 pub returns-in-At : goal.returns-in-At

@@ -2,7 +2,6 @@
 use mathlib.Core.Path.{sym, ap, ◌∙◌}
 use Rattle.header.specs.Answers.{directive_answer}
 use Rattle.header.proofs.Directives.{no_pdu, code_lies, unknown_read, known_read, own_read}
-use borrow.Author.Rules.{rules}
 use Rattle.header.proofs.directive.DirectivePdu.from_bytes.Goals as goal
 
 pub bounds-buf-at : goal.bounds-buf-at

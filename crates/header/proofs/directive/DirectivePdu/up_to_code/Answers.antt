@@ -4,7 +4,6 @@ use lib.Seq.{length-take-le}
 use Rattle.fields.specs.Answer.{accepted}
 use Rattle.header.specs.Answers.{length_answer}
 use Rattle.header.proofs.Directives.{no_header, not_verified, directive_read}
-use borrow.Author.Rules.{rules}
 use Rattle.header.proofs.directive.DirectivePdu.up_to_code.Goals as goal
 
 pub slice_bounds-header_in-end : goal.slice_bounds-header_in-end

@@ -1,6 +1,5 @@
 -- `tlv::walk::FieldCursor::next` meets its contract: the end, or what is read there.
 use mathlib.Core.Path.{sym, ◌∙◌}
-use borrow.Author.Rules.{rules}
 use Rattle.tlv.proofs.Walking.{next_end, read_field, read_cut}
 use Rattle.tlv.proofs.walk.FieldCursor.next.Goals as goal
 
