@@ -1,9 +1,9 @@
 #!/bin/sh
-# Installs the library, its header files, the programs and the command cfdp, with what the programs need to run on this machine.
+# Installs the library, its header files, the programs and the command cfdp. Programs need Linux on x86-64 with its C library.
 #   ./install.sh PREFIX
 # What is not proved as it stands is proved first. CFDP_LIB=FOLDER (its full path) takes the libcfdp.a of that folder; without it
-# link/archive.sh makes one for this machine.
-# Nothing is written outside PREFIX and target/.
+# link/archive.sh makes one.
+# Nothing is written outside PREFIX, target/ and the crates' out/.
 set -eu
 stop() { echo "install: $*" >&2; exit 2; }
 [ $# -eq 1 ] || stop "./install.sh PREFIX"
@@ -19,32 +19,23 @@ cp include/*.h "$prefix/include/"
 cp bin/cfdp "$prefix/bin/"
 cp LICENSE NOTICE "$prefix/share/doc/cfdp/"
 
-# A program with the loader, the C library and, where it is not for this machine, the emulator that ./run runs it with.
 for name in naklist pdulist nakstream nakdiff nakowed nakplan; do
-    command=$(./run -n "$name")
-    cp "target/bin/$name" "$place/"
-done
-emulator='' loader='' IFS='
-'
-for word in $command; do
-    case $word in
-        */qemu-*) emulator=${word##*/} && cp "$word" "$place/" ;;
-        */ld-*) loader=${word##*/} && cp "${word%/*}"/*.so* "$place/" ;;
-    esac
+    program=$(./run -n "$name")
+    cp "$program" "$place/"
 done
 
-cat >"$place/run" <<END
+cat >"$place/run" <<'END'
 #!/bin/sh
 # Runs a program that was proved before it was installed: run NAME [WORDS]; with -n it prints the command, a word to a line.
-here=\$(cd "\$(dirname "\$0")" && pwd -P)
+here=$(cd "$(dirname "$0")" && pwd -P)
 show=''
-[ "\${1:-}" != -n ] || { show=1; shift; }
-[ -f "\$here/\${1:-.}" ] || { echo "run: there is no program \${1:-}" >&2; exit 2; }
-name=\$1
+[ "${1:-}" != -n ] || { show=1; shift; }
+[ -f "$here/${1:-.}" ] || { echo "run: there is no program ${1:-}" >&2; exit 2; }
+name=$1
 shift
-set -- ${emulator:+\"\$here/$emulator\"} "\$here/$loader" --library-path "\$here" "\$here/\$name" "\$@"
-[ -z "\$show" ] || { printf '%s\n' "\$@"; exit 0; }
-exec "\$@"
+set -- "$here/$name" "$@"
+[ -z "$show" ] || { printf '%s\n' "$@"; exit 0; }
+exec "$@"
 END
 chmod +x "$place/run"
 

@@ -1,6 +1,6 @@
 #!/bin/sh
 # The command cfdp and install.sh, tried on cases whose outcome was written by hand. Programs and library are proved and made before
-# (`rt check`, link/archive.sh). Says what is amiss, and fails if anything is.
+# (`rt ci` or ./run, link/archive.sh). Says what is amiss, and fails if anything is.
 set -eu
 cd "$(dirname "$0")/.."
 room=$(mktemp -d)
