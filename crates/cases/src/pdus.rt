@@ -1,6 +1,5 @@
 // Metadata PDUs, written and read; and what `pdulist` prints of each of the four PDUs, and of each refusal that a reader gives.
-use crate::STDOUT_FILENO;
-use crate::{N, header, left, worked, written};
+use crate::{N, STDOUT_FILENO, header, left, worked, written};
 use header::LargeFileFlag;
 use metadata::MetadataParams;
 

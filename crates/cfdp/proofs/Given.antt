@@ -7,7 +7,7 @@ use mathlib.Core.List.{List}
 use lib.ListN.{get_or}
 use Rattle.fields.specs.declared.refusal.Refusal.{Refusal}
 use Rattle.fields.specs.Refusal.{paper}
-use Rattle.fields.specs.Answer.{Answer, accepted, short, refused, told, and_then}
+use Rattle.fields.specs.Answer.{Answer, accepted, told, and_then}
 use Rattle.fields.specs.Staged.{run}
 use Rattle.fields.proofs.Judging.{told_on, told_either}
 use Rattle.header.specs.declared.PduHeader.{PduHeader}

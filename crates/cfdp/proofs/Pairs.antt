@@ -9,16 +9,15 @@ use native.Mathlib.Nat.{div-add-mod', mul-le-mul_right, not-suc-le-zero, zero-ad
 use native.Mathlib.Numerals.{add-one}
 use lib.ListN.{length, get_or, take, drop, set, get_or-eq_default, length-take, length-drop}
 use lib.Seq.{sets, sets-eq, drop-cons, drop-length, get_or-take}
-use borrow.Author.Tests.{lt-ltb, le-ltb, le-leb}
+use borrow.Author.Tests.{lt-ltb, le-ltb}
 use Rattle.fields.specs.BigEndian.{number_at}
 use Rattle.header.specs.declared.flags.LargeFileFlag.{LargeFileFlag}
 use Rattle.header.specs.Flags.{file_if}
 use Rattle.nak.specs.declared.requests.RequestCursor.{RequestCursor}
-use Rattle.nak.specs.declared.requests.NextRequest.{NextRequest}
 use Rattle.nak.specs.declared.requests.NextRequest.TheVariants.{Pair, End}
 use Rattle.header.specs.Size.{size_width}
 use Rattle.nak.specs.Nak.{pair_size}
-use Rattle.nak.specs.Requests.{pairs_from, pairs_of, next_request}
+use Rattle.nak.specs.Requests.{pairs_from, next_request}
 use Rattle.nak.specs.Cases.{flat}
 use Rattle.fields.proofs.Parts.{number_part}
 use Rattle.nak.proofs.Walking.{pairs_count, pairs_are, shows_pair}

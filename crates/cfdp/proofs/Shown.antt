@@ -2,17 +2,13 @@
 -- Assumes nothing.
 use Prim.Native.Nat.{ℕ, zero, suc, ◌≤◌}
 use mathlib.Core.Path.{◌≡◌, refl, sym, ap, ap₂, ◌∙◌}
-use mathlib.Core.Bool.{Bool, true, false}
 use mathlib.Core.List.{List, [], ◌∷◌, ◌++◌}
 use native.Mathlib.Omega.{arith}
-use lib.Dec.{eqb}
 use lib.ListN.{length, get_or, take, set}
-use borrow.Author.Tests.{eqb-true}
-use Rattle.fields.specs.Choice.{if◌then◌else◌}
 use Rattle.fields.specs.declared.refusal.Refusal.{Refusal}
 use Rattle.fields.specs.declared.refusal.RefusalNumbers.{RefusalNumbers}
 use Rattle.fields.specs.Refusal.{paper, numbers_of}
-use Rattle.fields.specs.Answer.{Answer, accepted, short, refused, told}
+use Rattle.fields.specs.Answer.{Answer, accepted, told}
 use Rattle.fields.proofs.OneToOne.{numbers_paper}
 use Rattle.fields.proofs.Judging.{told_cases}
 use Rattle.header.specs.declared.PduHeader.{PduHeader}
@@ -22,7 +18,7 @@ use Rattle.eof.specs.declared.Eof.{Eof}
 use Rattle.ack.specs.declared.Ack.{Ack}
 use Rattle.ack.specs.Ack.{status_bits}
 use Rattle.nak.specs.declared.reserve.ReservedNak.{ReservedNak}
-use Rattle.cfdp.specs.Shown.{padded, answer_size, answer_numbers, shown, refusal_shown, header_numbers, read_header_numbers, reserved_numbers, fault_numbers, eof_numbers, ack_numbers}
+use Rattle.cfdp.specs.Shown.{padded, answer_size, shown, refusal_shown, header_numbers, read_header_numbers, reserved_numbers, fault_numbers, eof_numbers, ack_numbers}
 
 -- up to three numbers, and zeros behind them
 few : (ns : List ℕ) → length ns ≤ 3 → padded answer_size ns ≡ padded answer_size (get_or ns 0 0 ∷ get_or ns 1 0 ∷ get_or ns 2 0 ∷ [])

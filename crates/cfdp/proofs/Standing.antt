@@ -1,13 +1,13 @@
 -- A run's answer as numbers: the answer's own, and the offset behind them.
 -- Assumes nothing.
 use Prim.Native.Nat.{ℕ}
-use mathlib.Core.Path.{◌≡◌, refl, sym, ap, ap₂, ◌∙◌}
+use mathlib.Core.Path.{◌≡◌, ap, ap₂}
 use mathlib.Core.List.{List, [], ◌∷◌}
 use lib.ListN.{set}
 use Rattle.fields.specs.declared.refusal.Refusal.{Refusal}
 use Rattle.fields.specs.Refusal.{paper}
 use Rattle.fields.specs.Answer.{Answer, accepted, told}
-use Rattle.cfdp.specs.Shown.{padded, answer_size, shown, refusal_shown}
+use Rattle.cfdp.specs.Shown.{padded, answer_size, refusal_shown}
 use Rattle.cfdp.specs.Standing.{no_numbers, standing}
 use Rattle.cfdp.proofs.Shown.{refused_shown, accepted_shown}
 

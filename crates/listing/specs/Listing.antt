@@ -1,5 +1,5 @@
 -- Whether a reading was accepted, and whether a byte of a name is printed as it is.
-use Rattle.std.specs.Prelude.{ℕ, Bool, true, false, ◌&&◌, not, List, leb, eqb}
+use Rattle.std.specs.Prelude.{ℕ, Bool, true, false, ◌&&◌, not, leb, eqb}
 use Rattle.fields.specs.Answer.{Answer, accepted, short, refused}
 
 abbrev pub is_accepted : {A : Type 0} → Answer A → Bool

@@ -10,10 +10,10 @@ use lib.ListN.{length, get_or, drop, length-append, length-drop, drop_of_length-
 use lib.Seq.{drop_at, drop-cons, drop-drop}
 use borrow.Author.Tests.{lt-leb, le-leb, leb-true, eqb-true, eqb-false, eq-eqb, ne_eqb}
 use Rattle.fields.specs.BigEndian.{number_at, be_at, be_bytes}
-use Rattle.fields.specs.Answer.{Answer, accepted, short, refused, told, and_then, Test, first_of}
+use Rattle.fields.specs.Answer.{Answer, accepted, short, refused, told, and_then, first_of}
 use Rattle.fields.specs.Staged.{run}
 use Rattle.fields.proofs.BigEndian.{at_number, number_drop, number_back, be_length}
-use Rattle.fields.proofs.Judging.{Passed, passed, passed_first, passed_last, all_passed, refused_after, passed_after, refused_then, same_accepted, Went, went}
+use Rattle.fields.proofs.Judging.{Passed, passed, passed_last, refused_after, passed_after, refused_then, same_accepted, went}
 use Rattle.header.specs.declared.PduHeader.{PduHeader}
 use Rattle.header.specs.declared.pdu.PduWritten.{PduWritten}
 use Rattle.header.specs.declared.flags.Direction.TheVariants.{TowardsSender}
@@ -30,10 +30,10 @@ use Rattle.nak.specs.Nak.{pair_size}
 use Rattle.nak.specs.Requests.{area_of, pairs_from, pairs_of}
 use Rattle.nak.specs.Writing.{numbers_bytes, nak_bytes, data_length, filled, own_tests, writing_nak, judging_nak}
 use Rattle.nak.specs.Comparing.{same_nak, holds_numbers, comparing}
-use Rattle.nak.specs.Demands.{by_turns, Lent, read_as, ComparingSaysYes, Equals, YesMeansEqual}
+use Rattle.nak.specs.Demands.{by_turns, Lent, read_as, ComparingSaysYes, YesMeansEqual}
 use Rattle.nak.specs.Within.{towards_sender, comparing_read}
-use Rattle.nak.proofs.Tests.{OwnPassed, own_passed}
-use Rattle.nak.proofs.Writing.{ToWrite, to_write}
+use Rattle.nak.proofs.Tests.{own_passed}
+use Rattle.nak.proofs.Writing.{to_write}
 use Rattle.nak.proofs.RoundTrip.{halves, written_reads_back}
 
 -- ---- header and scope

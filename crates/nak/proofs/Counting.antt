@@ -21,9 +21,9 @@ use Rattle.header.specs.Pdu.{directive_tests, judging_directive, writing_pdu}
 use Rattle.header.specs.declared.pdu.PduWritten.{PduWritten}
 use Rattle.nak.specs.Nak.{pair_size, area_start}
 use Rattle.nak.specs.Writing.{data_length, most_pairs, filled, scope_fits, own_tests, writing_nak}
-use Rattle.nak.specs.Counting.{least_packet, packet_too_small, by_size, most_requests, of_pairs, JustFit, MostRequestsFit}
+use Rattle.nak.specs.Counting.{least_packet, packet_too_small, by_size, most_requests, of_pairs, MostRequestsFit}
 use Rattle.nak.proofs.Tests.{own_pass}
-use Rattle.nak.proofs.Writing.{ToWrite, to_write}
+use Rattle.nak.proofs.Writing.{to_write}
 
 pub least_is : (h : PduHeader) (a b : ℕ) → a ≡ area_start h → b ≡ crc_bit h.crc → a + 2 * b ≡ least_packet h
 unfolding least_packet

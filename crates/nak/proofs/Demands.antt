@@ -7,7 +7,6 @@ use mathlib.Core.List.{List}
 use native.Mathlib.Omega.{arith}
 use lib.ListN.{length, take, drop, length-take, length-drop}
 use borrow.Author.Tests.{ltb-false}
-use Rattle.fields.specs.Answer.{Answer, accepted}
 use Rattle.fields.specs.Staged.{run}
 use Rattle.fields.proofs.Staged.{passed_all, both}
 use Rattle.fields.proofs.Demand3.{code_demand3}
@@ -16,7 +15,6 @@ use Rattle.header.specs.declared.PduHeader.{PduHeader}
 use Rattle.header.specs.Header.{data_end}
 use Rattle.header.specs.Directive.{reading_directive}
 use Rattle.header.proofs.Directives.{next, reader_demand3, stops_inside}
-use Rattle.nak.specs.declared.Nak.{Nak}
 use Rattle.nak.specs.declared.NakResult.{NakResult}
 use Rattle.nak.specs.declared.NakResult.TheVariants.{Nak as Read, Refused}
 use Rattle.nak.specs.declared.reserve.ReserveResult.{ReserveResult}

@@ -6,11 +6,10 @@ use mathlib.Core.Bool.{true}
 use mathlib.Core.List.{List, [], ◌∷◌, ◌++◌, append_assoc}
 use native.Mathlib.Omega.{arith}
 use lib.Dec.{lit<, lit≤}
-use lib.ListN.{length, get_or, take, drop, length-append}
-use lib.Seq.{take_at, drop_at, get_or-append_seam}
+use lib.ListN.{length, get_or, drop, length-append}
 use borrow.Author.Tests.{le-ltb}
 use Rattle.fields.specs.BigEndian.{be_bytes, number_at}
-use Rattle.fields.specs.Answer.{accepted, first_of}
+use Rattle.fields.specs.Answer.{accepted}
 use Rattle.fields.specs.Staged.{run}
 use Rattle.fields.proofs.BigEndian.{be_length, number_back, one_byte}
 use Rattle.fields.proofs.Judging.{Passed, all_passed}
@@ -20,7 +19,6 @@ use Rattle.header.specs.declared.flags.CrcFlag.TheVariants.{NoCrc, WithCrc}
 use Rattle.header.specs.declared.flags.LargeFileFlag.{LargeFileFlag}
 use Rattle.header.specs.declared.flags.LargeFileFlag.TheVariants.{Normal, Large}
 use Rattle.header.specs.Header.{header_length, pdu_length, data_end, crc_length}
-use Rattle.header.specs.Code.{is_known}
 use Rattle.header.specs.Size.{size_width}
 use Rattle.header.specs.Pdu.{directive_tests, pdu_over}
 use Rattle.header.proofs.Codes.{known_range}
@@ -28,19 +26,17 @@ use Rattle.header.proofs.Verifying.{pdu_sum, end_sum}
 use Rattle.header.proofs.Sizes.{size_low}
 use Rattle.header.proofs.Pdus.{memory_has}
 use Rattle.header.proofs.PdusBack.{reads_content, content_there, over_length}
-use Rattle.nak.specs.declared.Nak.{Nak}
-use Rattle.nak.specs.declared.NakResult.{NakResult}
 use Rattle.nak.specs.declared.NakResult.TheVariants.{Nak as Read}
 use Rattle.nak.specs.Nak.{nak_code, pair_size, area_start, nak_in}
 use Rattle.nak.specs.Reading.{reading_nak}
 use Rattle.nak.specs.Requests.{area_of, pairs_from, pairs_of}
-use Rattle.nak.specs.Writing.{numbers_bytes, scope_bytes, nak_data, nak_over, nak_bytes, data_length, most_pairs, filled, scope_fits, own_tests, writing_nak, nak_memory}
-use Rattle.nak.specs.Demands.{by_turns, Lent, read_as, ReadsBack, MostPairsFit, WrittenReadsBack, CodeReadsBack}
+use Rattle.nak.specs.Writing.{numbers_bytes, scope_bytes, nak_data, nak_over, nak_bytes, data_length, filled, scope_fits, own_tests, writing_nak, nak_memory}
+use Rattle.nak.specs.Demands.{by_turns, Lent, read_as, MostPairsFit, WrittenReadsBack, CodeReadsBack}
 use Rattle.nak.proofs.Reading.{read_tests}
 use Rattle.nak.proofs.Walking.{within}
-use Rattle.nak.proofs.Tests.{OwnPassed, scope_passed, scope_fits_lem, pairs_bytes}
+use Rattle.nak.proofs.Tests.{scope_passed, scope_fits_lem}
 use Rattle.nak.proofs.Storing.{scope_length, data_length_lem, numbers_length}
-use Rattle.nak.proofs.Writing.{ToWrite, to_write, doubled}
+use Rattle.nak.proofs.Writing.{ToWrite, to_write}
 use Rattle.nak.proofs.Demands.{one_nak_result}
 
 -- ---- the pairs, once over the width

@@ -1,17 +1,15 @@
 -- A NAK's own tests, 12, 9 and 10, and the length of its data: the answer at each exit, and what they accept. Once for both widths.
 -- Assumes nothing.
 use Prim.Native.Nat.{ℕ, ◌+◌, ◌*◌, ◌/◌, ◌%◌, ◌^◌, ◌≤◌, ◌<◌}
-use mathlib.Core.Path.{◌≡◌, refl, sym, ap, ◌∙◌}
-use mathlib.Core.Bool.{Bool, true, false, ◌&&◌}
+use mathlib.Core.Path.{◌≡◌, refl, sym}
+use mathlib.Core.Bool.{Bool, true, false}
 use mathlib.Core.List.{List, [], ◌∷◌, ◌++◌}
 use native.Mathlib.Nat.{div-add-mod'}
 use native.Mathlib.Omega.{arith}
 use lib.Dec.{eqb}
 use borrow.Author.Tests.{lt-ltb, le-ltb, ltb-false, eq-eqb, ne_eqb, eqb-true, not-false}
-use Rattle.fields.specs.Answer.{Answer, accepted, told, Test, first_of, all_of}
-use Rattle.fields.proofs.Width.{lt_fits}
+use Rattle.fields.specs.Answer.{accepted, told, Test, first_of, all_of}
 use Rattle.fields.proofs.Judging.{Passed, judged_passed, all_passed, refused_on, refused_after, passed_after, told_is_refused}
-use Rattle.header.specs.declared.PduHeader.{PduHeader}
 use Rattle.header.specs.declared.flags.CrcFlag.{CrcFlag}
 use Rattle.header.specs.declared.flags.LargeFileFlag.{LargeFileFlag}
 use Rattle.header.specs.declared.flags.LargeFileFlag.TheVariants.{Normal, Large}
@@ -19,7 +17,6 @@ use Rattle.header.specs.Flags.{crc_bit}
 use Rattle.header.specs.Size.{size_width, fits_size}
 use Rattle.header.proofs.Comparing.{both_true}
 use Rattle.header.proofs.Sizes.{size_fits, fits_size_lem}
-use Rattle.nak.specs.Nak.{pair_size}
 use Rattle.nak.specs.Writing.{data_length, most_pairs, odd_count, scope_fits, scope_too_large, too_many, own_tests}
 use Rattle.nak.specs.Reserving.{finish_tests}
 

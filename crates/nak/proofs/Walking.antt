@@ -15,9 +15,7 @@ use Rattle.fields.proofs.Parts.{part_read}
 use Rattle.header.specs.declared.flags.LargeFileFlag.{LargeFileFlag}
 use Rattle.header.specs.declared.flags.LargeFileFlag.TheVariants.{Normal, Large}
 use Rattle.nak.specs.declared.Nak.{Nak}
-use Rattle.nak.specs.declared.requests.NextRequest.{NextRequest}
 use Rattle.nak.specs.declared.requests.NextRequest.TheVariants.{Pair, End}
-use Rattle.nak.specs.declared.requests.RequestsStart.{RequestsStart}
 use Rattle.nak.specs.declared.requests.RequestsStart.TheVariants.{From, Nothing}
 use Rattle.header.specs.Size.{size_width}
 use Rattle.header.proofs.Sizes.{size_high}

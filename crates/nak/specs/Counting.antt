@@ -1,5 +1,5 @@
 -- Most requests for a packet size (document 01, and document 02's C-08), and that the writer accepts so many and no more.
-use Rattle.std.specs.Prelude.{ℕ, ◌+◌, ◌-◌, ◌*◌, ◌/◌, ◌≤◌, ◌<◌, min, ◌≡◌, true, List, [], ◌∷◌, ◌++◌, ltb}
+use Rattle.std.specs.Prelude.{ℕ, ◌+◌, ◌-◌, ◌*◌, ◌/◌, ◌≤◌, ◌<◌, min, ◌≡◌, true, [], ◌∷◌, ◌++◌, ltb}
 use Rattle.fields.specs.Answer.{Answer, accepted, told, Test, when, first_of}
 use Rattle.fields.specs.Refusal.{paper}
 use Rattle.header.specs.declared.PduHeader.{PduHeader}

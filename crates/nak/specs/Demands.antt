@@ -1,6 +1,6 @@
 -- What is proved of this layer, beside the demand that it meets.
 use Rattle.std.specs.Prelude.{ℕ, ◌+◌, ◌-◌, ◌*◌, ◌/◌, ◌^◌, ◌≤◌, ◌<◌, ◌≡◌, true, List, [], ◌∷◌, ◌++◌, map, length, get_or, take, drop}
-use Rattle.fields.specs.Answer.{Answer, accepted}
+use Rattle.fields.specs.Answer.{accepted}
 use Rattle.fields.specs.Staged.{run}
 use Rattle.fields.specs.Demand3.{heard, Demand3, CodeDemand3}
 use Rattle.header.specs.declared.PduHeader.{PduHeader}

@@ -1,5 +1,4 @@
 -- Reading a NAK, in the order of document 01's sentence.
-use Rattle.std.specs.Prelude.{List, [], ◌∷◌}
 use Rattle.fields.specs.Answer.{Answer, accepted, told}
 use Rattle.fields.specs.Refusal.{paper}
 use Rattle.fields.specs.Staged.{Staged, accept, ◌>>=◌, ◌>>◌, test}

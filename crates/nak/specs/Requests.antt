@@ -1,10 +1,9 @@
 -- The request area of a NAK: its pairs, one after the other, and the cursor that walks it.
-use Rattle.std.specs.Prelude.{ℕ, zero, suc, ◌+◌, ◌-◌, ◌*◌, ◌/◌, Bool, ◌&&◌, List, [], ◌∷◌, leb, eqb, length, take, drop}
+use Rattle.std.specs.Prelude.{ℕ, zero, suc, ◌+◌, ◌-◌, ◌*◌, ◌/◌, ◌&&◌, List, [], ◌∷◌, leb, eqb, length, take, drop}
 use Rattle.fields.specs.Choice.{if◌then◌else◌}
 use Rattle.fields.specs.BigEndian.{number_at}
 use Rattle.header.specs.declared.flags.LargeFileFlag.{LargeFileFlag}
 use Rattle.nak.specs.declared.Nak.{Nak}
-use Rattle.nak.specs.declared.requests.RequestCursor.{RequestCursor}
 use Rattle.nak.specs.declared.requests.NextRequest.{NextRequest}
 use Rattle.nak.specs.declared.requests.NextRequest.TheVariants.{Pair, End}
 use Rattle.nak.specs.declared.requests.RequestsStart.{RequestsStart}

@@ -1,5 +1,5 @@
 -- Reserving room for requests, and finishing the NAK around them (document 01): the answers, and the lent memory at exit.
-use Rattle.std.specs.Prelude.{ℕ, ◌-◌, List, [], ◌∷◌, length, take, drop}
+use Rattle.std.specs.Prelude.{ℕ, ◌-◌, List, [], ◌∷◌, take, drop}
 use Rattle.fields.specs.Answer.{Answer, accepted, told, and_then, Test}
 use Rattle.fields.specs.Refusal.{paper}
 use Rattle.header.specs.declared.PduHeader.{PduHeader}

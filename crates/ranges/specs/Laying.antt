@@ -1,5 +1,5 @@
 -- Ranges as lent numbers: two for each, or three with its label.
-use Rattle.std.specs.Prelude.{ℕ, ◌+◌, Bool, true, false, List, [], ◌∷◌, ◌++◌}
+use Rattle.std.specs.Prelude.{ℕ, Bool, true, false, List, [], ◌∷◌, ◌++◌}
 use Rattle.ranges.specs.Runs.{Run, range}
 
 -- how many numbers one range has

@@ -1,6 +1,5 @@
 -- `cases::most_of_each` is safe and ends: the place is within the slice, and rises.
 use Prim.Native.Nat.{◌≤◌, ◌-◌}
-use borrow.Author.Rules.{rules}
 use lib.ListN.{length}
 use Rattle.cases.proofs.most_of_each.Given as goal
 

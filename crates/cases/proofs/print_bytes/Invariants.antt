@@ -1,6 +1,5 @@
 -- `cases::print_bytes` is safe and ends: the place is within the slice, and rises.
 use Prim.Native.Nat.{◌≤◌, ◌-◌}
-use borrow.Author.Rules.{rules}
 use lib.ListN.{length}
 use Rattle.cases.proofs.print_bytes.Given as goal
 

@@ -1,6 +1,5 @@
 -- `cfdp::header_from` meets its contract: each flag is that of its byte, and the widths are joined.
 use Rattle.cfdp.proofs.Given.{header_is}
-use borrow.Author.Rules.{rules}
 use Rattle.cfdp.proofs.header_from.Goals as goal
 
 pub returns : goal.returns

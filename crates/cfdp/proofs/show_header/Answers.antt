@@ -3,7 +3,6 @@ use mathlib.Core.Path.{ap}
 use mathlib.Core.List.{List, ◌∷◌}
 use Prim.Native.Nat.{ℕ}
 use Rattle.cfdp.proofs.Shown.{header_numbers_lem}
-use borrow.Author.Rules.{rules}
 use Rattle.cfdp.proofs.show_header.Goals as goal
 
 pub returns : goal.returns

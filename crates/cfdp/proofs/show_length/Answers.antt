@@ -3,7 +3,6 @@ use mathlib.Core.Path.{sym, ap}
 use Rattle.header.specs.Answers.{length_answer}
 use Rattle.cfdp.specs.Shown.{one_number}
 use Rattle.cfdp.proofs.Shown.{refused_shown, accepted_shown}
-use borrow.Author.Rules.{rules}
 use Rattle.cfdp.proofs.show_length.Goals as goal
 
 pub returns-in-Refused : goal.returns-in-Refused

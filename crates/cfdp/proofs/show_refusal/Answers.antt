@@ -1,7 +1,6 @@
 -- `cfdp::show_refusal` meets its contract: the number and the values, which are at most two.
 use mathlib.Core.Path.{◌∙◌}
 use Rattle.cfdp.proofs.Shown.{refusal_numbers}
-use borrow.Author.Rules.{rules}
 use Rattle.cfdp.proofs.show_refusal.Goals as goal
 
 pub returns : goal.returns

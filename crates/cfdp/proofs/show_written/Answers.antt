@@ -3,7 +3,6 @@ use mathlib.Core.Path.{sym, ap}
 use Rattle.header.specs.Pdu.{write_answer}
 use Rattle.cfdp.specs.Shown.{written_numbers}
 use Rattle.cfdp.proofs.Shown.{refused_shown, accepted_shown}
-use borrow.Author.Rules.{rules}
 use Rattle.cfdp.proofs.show_written.Goals as goal
 
 pub returns-in-Refused : goal.returns-in-Refused

@@ -4,7 +4,6 @@ use mathlib.Core.Bool.{false}
 use Rattle.fields.proofs.Judging.{told_either}
 use Rattle.nak.specs.Reading.{nak_answer}
 use Rattle.listing.specs.Listing.{is_accepted}
-use borrow.Author.Rules.{rules}
 use Rattle.listing.proofs.list.Goals as goal
 
 pub returns-in-Refused : goal.returns-in-Refused

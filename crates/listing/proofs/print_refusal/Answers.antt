@@ -1,7 +1,6 @@
 -- `listing::print_refusal` meets its contract: the number is that of the record.
 use mathlib.Core.Path.{ap}
 use Rattle.fields.specs.declared.refusal.RefusalNumbers.{RefusalNumbers}
-use borrow.Author.Rules.{rules}
 use Rattle.listing.proofs.print_refusal.Goals as goal
 
 pub returns : goal.returns

@@ -1,6 +1,5 @@
 -- `listing::print_requests` is safe and ends: it prints as many times as it is told.
 use Prim.Native.Nat.{◌≤◌, ◌-◌}
-use borrow.Author.Rules.{rules}
 use Rattle.listing.proofs.print_requests.Given as goal
 
 abbrev pub invariant-loop-i : goal.invariant-loop-i

@@ -1,7 +1,6 @@
 -- `nak::area_start` meets its contract: h, the code and the scope.
 use Rattle.nak.proofs.Reading.{area_is}
 use native.Mathlib.Omega.{arith}
-use borrow.Author.Rules.{rules}
 use Rattle.nak.proofs.area_start.Goals as goal
 
 pub returns : goal.returns

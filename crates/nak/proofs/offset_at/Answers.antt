@@ -2,7 +2,6 @@
 use native.Mathlib.Omega.{arith}
 use Rattle.header.specs.declared.flags.LargeFileFlag.TheVariants.{Normal, Large}
 use Rattle.nak.proofs.Walking.{offset_there, offset_read}
-use borrow.Author.Rules.{rules}
 use Rattle.nak.proofs.offset_at.Goals as goal
 
 pub overflow_add-at : goal.overflow_add-at

@@ -1,6 +1,5 @@
 -- `nakowed::print_owed` is safe and ends: it prints no more ranges than a state has. Nothing has to hold from turn to turn.
 use Prim.Native.Nat.{◌-◌}
-use borrow.Author.Rules.{rules}
 use Rattle.nakowed.proofs.print_owed.Given as goal
 
 abbrev pub invariant-loop-i : goal.invariant-loop-i

@@ -1,9 +1,6 @@
 -- `nakstream::offer` is safe and ends: a call takes bytes of what is left of the fragment, and the loop goes on where it took one.
 use Prim.Native.Nat.{◌-◌, ◌≤◌}
-use native.Mathlib.Omega.{arith}
 use lib.ListN.{length}
-use Rattle.nakstream.proofs.Taken.{stays_inside}
-use borrow.Author.Rules.{rules}
 use Rattle.nakstream.proofs.offer.Given as goal
 
 abbrev pub invariant-loop-at : goal.invariant-loop-at

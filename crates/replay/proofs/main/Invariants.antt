@@ -1,6 +1,5 @@
 -- `replay::main` is safe and ends: as many records differ as were replayed, or fewer, and those are counted up to what the list says.
 use Prim.Native.Nat.{◌≤◌, ◌-◌}
-use borrow.Author.Rules.{rules}
 use Rattle.replay.proofs.main.Given as goal
 
 abbrev pub invariant-loop-i : goal.invariant-loop-i

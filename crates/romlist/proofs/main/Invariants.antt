@@ -1,6 +1,5 @@
 -- `romlist::main` is safe and ends: the place is within the table, and rises.
 use Prim.Native.Nat.{◌≤◌, ◌-◌}
-use borrow.Author.Rules.{rules}
 use Rattle.romlist.proofs.main.Given as goal
 
 abbrev pub invariant-loop-i : goal.invariant-loop-i

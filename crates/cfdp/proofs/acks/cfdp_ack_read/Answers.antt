@@ -3,7 +3,6 @@ use mathlib.Core.Path.{sym, ap, ◌∙◌}
 use Rattle.ack.specs.Reading.{ack_answer}
 use Rattle.cfdp.specs.Shown.{ack_numbers}
 use Rattle.cfdp.proofs.Shown.{refused_shown, ack_shown}
-use borrow.Author.Rules.{rules}
 use Rattle.cfdp.proofs.acks.cfdp_ack_read.Goals as goal
 
 pub returns-in-Refused : goal.returns-in-Refused

@@ -7,7 +7,6 @@ use Rattle.ack.specs.Writing.{writing_ack, ack_memory}
 use Rattle.cfdp.specs.Given.{ack_from}
 use Rattle.cfdp.specs.Shown.{shown, written_numbers}
 use Rattle.cfdp.proofs.Given.{none_shown, none_left, given_shown, given_left}
-use borrow.Author.Rules.{rules}
 use Rattle.cfdp.proofs.acks.cfdp_ack_write.Goals as goal
 
 pub returns-in-Refused : goal.returns-in-Refused

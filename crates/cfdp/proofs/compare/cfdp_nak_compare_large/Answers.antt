@@ -5,7 +5,6 @@ use Rattle.header.specs.declared.PduHeader.{PduHeader}
 use Rattle.header.specs.Answers.{header_answer}
 use Rattle.cfdp.specs.Shown.{shown, verdict_number}
 use Rattle.cfdp.proofs.Given.{none_compared, given_compared}
-use borrow.Author.Rules.{rules}
 use Rattle.cfdp.proofs.compare.cfdp_nak_compare_large.Goals as goal
 
 pub returns-in-Refused : goal.returns-in-Refused

@@ -6,7 +6,6 @@ use Rattle.fields.specs.Refusal.{paper}
 use Rattle.fields.proofs.Judging.{told_on}
 use Rattle.nak.specs.declared.Nak.{Nak}
 use Rattle.nak.specs.Reading.{nak_answer}
-use borrow.Author.Rules.{rules}
 use Rattle.cfdp.proofs.compare.reader_first.Goals as goal
 
 pub returns-in-Refused : goal.returns-in-Refused

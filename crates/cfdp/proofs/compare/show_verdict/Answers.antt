@@ -3,7 +3,6 @@ use mathlib.Core.Path.{sym, ap}
 use Rattle.nak.specs.Comparing.{compare_answer}
 use Rattle.cfdp.specs.Shown.{verdict_number}
 use Rattle.cfdp.proofs.Shown.{refused_shown, accepted_shown}
-use borrow.Author.Rules.{rules}
 use Rattle.cfdp.proofs.compare.show_verdict.Goals as goal
 
 pub returns-in-Refused : goal.returns-in-Refused

@@ -3,7 +3,6 @@ use mathlib.Core.Path.{sym, ap, ◌∙◌}
 use Rattle.ranges.specs.Differing.{differ_answer}
 use Rattle.cfdp.specs.Differing.{differ_numbers}
 use Rattle.cfdp.proofs.Shown.{refused_shown, accepted_shown}
-use borrow.Author.Rules.{rules}
 use Rattle.cfdp.proofs.differ.cfdp_differ.Goals as goal
 
 pub returns-in-Refused : goal.returns-in-Refused

@@ -1,6 +1,5 @@
 -- `cfdp::differ::show_differences` meets its contract: two numbers by `show_few`, the third behind them.
 use Rattle.cfdp.proofs.Differing.{differ_numbers_lem}
-use borrow.Author.Rules.{rules}
 use Rattle.cfdp.proofs.differ.show_differences.Goals as goal
 
 pub returns : goal.returns

@@ -3,7 +3,6 @@ use mathlib.Core.Path.{sym, ap, ◌∙◌}
 use Rattle.eof.specs.Reading.{eof_answer}
 use Rattle.cfdp.specs.Shown.{eof_numbers}
 use Rattle.cfdp.proofs.Shown.{refused_shown, accepted_shown}
-use borrow.Author.Rules.{rules}
 use Rattle.cfdp.proofs.eofs.cfdp_eof_read.Goals as goal
 
 pub returns-in-Refused : goal.returns-in-Refused

@@ -7,7 +7,6 @@ use Rattle.eof.specs.Writing.{writing_eof, eof_memory}
 use Rattle.cfdp.specs.Given.{eof_from}
 use Rattle.cfdp.specs.Shown.{shown, written_numbers}
 use Rattle.cfdp.proofs.Given.{none_shown, none_left, given_shown, given_left}
-use borrow.Author.Rules.{rules}
 use Rattle.cfdp.proofs.eofs.cfdp_eof_write.Goals as goal
 
 pub returns-in-Refused : goal.returns-in-Refused

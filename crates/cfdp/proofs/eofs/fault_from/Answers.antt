@@ -1,9 +1,7 @@
 -- `cfdp::eofs::fault_from` meets its contract: there is one, or not.
 use mathlib.Core.Path.{sym, ap}
 use mathlib.Core.Bool.{Bool}
-use borrow.Author.Tests.{not-true, not-false}
 use Rattle.cfdp.specs.Given.{fault_from}
-use borrow.Author.Rules.{rules}
 use Rattle.cfdp.proofs.eofs.fault_from.Goals as goal
 
 pub returns-then-not-there : goal.returns-then-not-there

@@ -1,7 +1,6 @@
 -- `cfdp::eofs::fault_numbers` meets its contract: each case has its numbers.
 use mathlib.Core.Path.{sym, ap}
 use Rattle.cfdp.specs.Shown.{fault_numbers}
-use borrow.Author.Rules.{rules}
 use Rattle.cfdp.proofs.eofs.fault_numbers.Goals as goal
 
 pub returns-in-Nowhere : goal.returns-in-Nowhere

@@ -1,6 +1,5 @@
 -- `cfdp::eofs::show_eof` meets its contract: header and five numbers by `show_header`, two behind them.
 use Rattle.cfdp.proofs.Shown.{eof_numbers_lem}
-use borrow.Author.Rules.{rules}
 use Rattle.cfdp.proofs.eofs.show_eof.Goals as goal
 
 pub returns : goal.returns

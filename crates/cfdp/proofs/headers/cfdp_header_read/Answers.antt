@@ -3,7 +3,6 @@ use mathlib.Core.Path.{sym, ap, ◌∙◌}
 use Rattle.header.specs.Answers.{header_answer}
 use Rattle.cfdp.specs.Shown.{read_header_numbers}
 use Rattle.cfdp.proofs.Shown.{refused_shown, read_header_shown}
-use borrow.Author.Rules.{rules}
 use Rattle.cfdp.proofs.headers.cfdp_header_read.Goals as goal
 
 pub returns-in-Refused : goal.returns-in-Refused

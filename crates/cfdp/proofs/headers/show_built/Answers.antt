@@ -3,7 +3,6 @@ use mathlib.Core.Path.{sym, ap}
 use Rattle.header.specs.Answers.{header_answer}
 use Rattle.cfdp.specs.Shown.{header_numbers}
 use Rattle.cfdp.proofs.Shown.{refused_shown, accepted_shown}
-use borrow.Author.Rules.{rules}
 use Rattle.cfdp.proofs.headers.show_built.Goals as goal
 
 pub returns-in-Refused : goal.returns-in-Refused

@@ -1,7 +1,6 @@
 -- `cfdp::metadatas::cfdp_metadata_option` meets its contract: cut, the end, or an option, as numbers.
 use mathlib.Core.Path.{sym, ◌∙◌}
 use Rattle.cfdp.proofs.MetadataShown.{cut_shown, end_shown, field_shown}
-use borrow.Author.Rules.{rules}
 use Rattle.cfdp.proofs.metadatas.cfdp_metadata_option.Goals as goal
 
 pub returns-in-Cut : goal.returns-in-Cut

@@ -3,7 +3,6 @@ use mathlib.Core.Path.{sym, ap, ◌∙◌}
 use Rattle.metadata.specs.Reading.{metadata_answer}
 use Rattle.cfdp.specs.MetadataNumbers.{metadata_numbers}
 use Rattle.cfdp.proofs.Shown.{refused_shown, accepted_shown}
-use borrow.Author.Rules.{rules}
 use Rattle.cfdp.proofs.metadatas.cfdp_metadata_read.Goals as goal
 
 pub returns-in-Refused : goal.returns-in-Refused

@@ -1,6 +1,5 @@
 -- `cfdp::metadatas::show_metadata` meets its contract: header and five numbers by `show_header`, four behind them.
 use Rattle.cfdp.proofs.MetadataShown.{metadata_numbers_lem}
-use borrow.Author.Rules.{rules}
 use Rattle.cfdp.proofs.metadatas.show_metadata.Goals as goal
 
 pub returns : goal.returns

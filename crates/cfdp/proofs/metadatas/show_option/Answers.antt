@@ -1,6 +1,5 @@
 -- `cfdp::metadatas::show_option` meets its contract: three numbers by `show_few`, two behind them.
 use Rattle.cfdp.proofs.MetadataShown.{option_numbers}
-use borrow.Author.Rules.{rules}
 use Rattle.cfdp.proofs.metadatas.show_option.Goals as goal
 
 pub returns : goal.returns

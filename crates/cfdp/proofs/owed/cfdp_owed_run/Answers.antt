@@ -2,7 +2,6 @@
 use mathlib.Core.Path.{sym, ap, ◌∙◌}
 use Rattle.ranges.specs.Log.{stop_answer}
 use Rattle.cfdp.proofs.Standing.{refused_standing, ended_standing}
-use borrow.Author.Rules.{rules}
 use Rattle.cfdp.proofs.owed.cfdp_owed_run.Goals as goal
 
 pub returns-in-Refused : goal.returns-in-Refused

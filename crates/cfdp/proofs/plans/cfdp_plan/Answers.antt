@@ -4,7 +4,6 @@ use Rattle.header.specs.Answers.{header_answer}
 use Rattle.cfdp.specs.Shown.{shown}
 use Rattle.cfdp.specs.Plans.{plan_numbers}
 use Rattle.cfdp.proofs.Given.{none_shown, none_left, given_shown, given_left}
-use borrow.Author.Rules.{rules}
 use Rattle.cfdp.proofs.plans.cfdp_plan.Goals as goal
 
 pub returns-in-Refused : goal.returns-in-Refused

@@ -5,7 +5,6 @@ use mathlib.Core.List.{◌∷◌}
 use Rattle.plan.specs.Checking.{check_answer}
 use Rattle.cfdp.specs.Shown.{padded, answer_size, verdict_number}
 use Rattle.cfdp.proofs.Shown.{refused_shown, accepted_shown}
-use borrow.Author.Rules.{rules}
 use Rattle.cfdp.proofs.plans.show_checked.Goals as goal
 
 pub returns-then-accepted : goal.returns-then-accepted

@@ -3,7 +3,6 @@ use mathlib.Core.Path.{sym, ap}
 use Rattle.plan.specs.Planning.{plan_answer}
 use Rattle.cfdp.specs.Plans.{plan_numbers}
 use Rattle.cfdp.proofs.Shown.{refused_shown, accepted_shown}
-use borrow.Author.Rules.{rules}
 use Rattle.cfdp.proofs.plans.show_planned.Goals as goal
 
 pub returns-in-Refused : goal.returns-in-Refused

@@ -1,11 +1,9 @@
 -- `cfdp::read::cfdp_nak_pairs` meets its contract. The loop's invariant: storing the pairs that are left gives what is to be stored.
-use Prim.Native.Nat.{◌-◌, ◌*◌, ◌/◌, ◌≤◌, ◌<◌}
-use mathlib.Core.Path.{◌≡◌, refl, sym, ◌∙◌}
+use Prim.Native.Nat.{◌/◌, ◌≤◌, ◌<◌}
+use mathlib.Core.Path.{refl, sym, ◌∙◌}
 use native.Mathlib.Omega.{arith}
-use lib.ListN.{length, take, drop, length-take, length-set}
-use lib.Seq.{sets}
+use lib.ListN.{length, take, length-take, length-set}
 use borrow.Author.Tests.{ltb-true, ltb-false, not-false, not-true}
-use Rattle.nak.specs.Cases.{flat}
 use Rattle.cfdp.specs.Pairs.{pairs_in}
 use Rattle.cfdp.proofs.Pairs.{pair_turn, pairs_done}
 use borrow.Author.Rules.{rules}

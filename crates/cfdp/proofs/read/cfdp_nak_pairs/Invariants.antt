@@ -1,14 +1,10 @@
 -- `cfdp::read::cfdp_nak_pairs` meets its contract. The loop's invariant: storing the pairs that are left gives what is to be stored.
-use Prim.Native.Nat.{◌-◌, ◌*◌, ◌/◌, ◌≤◌, ◌<◌}
-use mathlib.Core.Path.{◌≡◌, refl, sym, ◌∙◌}
-use native.Mathlib.Omega.{arith}
-use lib.ListN.{length, take, drop, length-take, length-set}
+use Prim.Native.Nat.{◌-◌, ◌*◌, ◌≤◌}
+use mathlib.Core.Path.{◌≡◌}
+use lib.ListN.{length, take, drop}
 use lib.Seq.{sets}
-use borrow.Author.Tests.{ltb-true, ltb-false, not-false, not-true}
 use Rattle.nak.specs.Cases.{flat}
 use Rattle.cfdp.specs.Pairs.{pairs_in}
-use Rattle.cfdp.proofs.Pairs.{pair_turn, pairs_done}
-use borrow.Author.Rules.{rules}
 use Rattle.cfdp.proofs.read.cfdp_nak_pairs.Given as goal
 
 abbrev pub invariant-loop-i : goal.invariant-loop-i

@@ -3,7 +3,6 @@ use mathlib.Core.Path.{sym, ap, ◌∙◌}
 use Rattle.nak.specs.Reading.{nak_answer}
 use Rattle.cfdp.specs.Shown.{nak_numbers}
 use Rattle.cfdp.proofs.Shown.{refused_shown, accepted_shown}
-use borrow.Author.Rules.{rules}
 use Rattle.cfdp.proofs.read.cfdp_nak_read.Goals as goal
 
 pub returns-in-Refused : goal.returns-in-Refused

@@ -2,7 +2,6 @@
 use mathlib.Core.Path.{sym, ◌∙◌}
 use native.Mathlib.Omega.{arith}
 use Rattle.cfdp.proofs.Pairs.{whole_pair, no_pair, found_pair, not_end}
-use borrow.Author.Rules.{rules}
 use Rattle.cfdp.proofs.read.pair_at.Goals as goal
 
 pub returns-then-area-size : goal.returns-then-area-size

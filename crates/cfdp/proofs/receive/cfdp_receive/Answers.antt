@@ -2,7 +2,6 @@
 use mathlib.Core.Path.{ap, ◌∙◌}
 use Rattle.receiver.specs.Receiving.{Call}
 use Rattle.cfdp.specs.Received.{outcome_shown}
-use borrow.Author.Rules.{rules}
 use Rattle.cfdp.proofs.receive.cfdp_receive.Goals as goal
 
 pub returns : goal.returns

@@ -4,7 +4,6 @@ use Rattle.receiver.specs.declared.Outcome.{Outcome}
 use Rattle.receiver.specs.Receiving.{outcome_of}
 use Rattle.cfdp.specs.Shown.{refusal_shown}
 use Rattle.cfdp.specs.Received.{outcome_shown}
-use borrow.Author.Rules.{rules}
 use Rattle.cfdp.proofs.receive.show_outcome.Goals as goal
 
 pub returns-in-More : goal.returns-in-More

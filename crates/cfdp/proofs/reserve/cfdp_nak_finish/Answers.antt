@@ -3,7 +3,6 @@ use mathlib.Core.Path.{sym, ap, ◌∙◌}
 use Rattle.header.specs.Answers.{header_answer}
 use Rattle.cfdp.specs.Shown.{shown, written_numbers}
 use Rattle.cfdp.proofs.Given.{none_shown, none_left, given_shown, given_left}
-use borrow.Author.Rules.{rules}
 use Rattle.cfdp.proofs.reserve.cfdp_nak_finish.Goals as goal
 
 pub returns-in-Refused : goal.returns-in-Refused

@@ -3,7 +3,6 @@ use mathlib.Core.Path.{sym, ap, ◌∙◌}
 use Rattle.header.specs.Answers.{header_answer}
 use Rattle.cfdp.specs.Shown.{shown, reserved_numbers}
 use Rattle.cfdp.proofs.Given.{none_shown, given_shown}
-use borrow.Author.Rules.{rules}
 use Rattle.cfdp.proofs.reserve.cfdp_nak_reserve.Goals as goal
 
 pub returns-in-Refused : goal.returns-in-Refused

@@ -3,7 +3,6 @@ use mathlib.Core.Path.{sym, ap}
 use Rattle.nak.specs.Reserving.{reserve_answer}
 use Rattle.cfdp.specs.Shown.{reserved_numbers}
 use Rattle.cfdp.proofs.Shown.{refused_shown, reserved_shown}
-use borrow.Author.Rules.{rules}
 use Rattle.cfdp.proofs.reserve.show_reserved.Goals as goal
 
 pub returns-in-Refused : goal.returns-in-Refused

@@ -3,7 +3,6 @@ use mathlib.Core.Path.{sym, ap, ◌∙◌}
 use Rattle.header.specs.Answers.{header_answer}
 use Rattle.cfdp.specs.Shown.{shown, one_number}
 use Rattle.cfdp.proofs.Given.{none_shown, given_shown}
-use borrow.Author.Rules.{rules}
 use Rattle.cfdp.proofs.write.cfdp_nak_most.Goals as goal
 
 pub returns-in-Refused : goal.returns-in-Refused

@@ -3,7 +3,6 @@ use mathlib.Core.Path.{sym, ap}
 use Rattle.nak.specs.Counting.{count_answer}
 use Rattle.cfdp.specs.Shown.{one_number}
 use Rattle.cfdp.proofs.Shown.{refused_shown, accepted_shown}
-use borrow.Author.Rules.{rules}
 use Rattle.cfdp.proofs.write.show_count.Goals as goal
 
 pub returns-in-Refused : goal.returns-in-Refused

@@ -1,7 +1,6 @@
 -- `listing::metadatas::print_name` is safe and ends: the place is within the slice, and rises.
 use Prim.Native.Nat.{◌≤◌, ◌-◌}
 use lib.ListN.{length}
-use borrow.Author.Rules.{rules}
 use Rattle.listing.proofs.metadatas.print_name.Given as goal
 
 abbrev pub invariant-loop-i : goal.invariant-loop-i

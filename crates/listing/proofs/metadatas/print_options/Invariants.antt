@@ -1,7 +1,6 @@
 -- `listing::metadatas::print_options` is safe and ends: it prints as often as the area has bytes, at most.
 use Prim.Native.Nat.{◌≤◌, ◌-◌}
 use lib.ListN.{length}
-use borrow.Author.Rules.{rules}
 use Rattle.listing.proofs.metadatas.print_options.Given as goal
 
 abbrev pub invariant-loop-i : goal.invariant-loop-i

@@ -2,7 +2,6 @@
 use mathlib.Core.Path.{sym, ap, ◌∙◌}
 use Rattle.nak.specs.Reading.{nak_answer}
 use Rattle.listing.proofs.Deciding.{other_listed, nak_listed}
-use borrow.Author.Rules.{rules}
 use Rattle.listing.proofs.pdus.list.Goals as goal
 
 pub returns-in-Refused : goal.returns-in-Refused

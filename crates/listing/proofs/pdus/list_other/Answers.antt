@@ -3,7 +3,6 @@ use mathlib.Core.Path.{sym, ap, ◌∙◌}
 use Rattle.fields.specs.declared.refusal.RefusalNumbers.{RefusalNumbers}
 use Rattle.fields.specs.Refusal.{numbers_of}
 use Rattle.listing.proofs.Deciding.{not_named, as_eof, as_ack, as_metadata, no_reader}
-use borrow.Author.Rules.{rules}
 use Rattle.listing.proofs.pdus.list_other.Goals as goal
 
 pub returns-then-numbers-ne8 : goal.returns-then-numbers-ne8

@@ -3,7 +3,6 @@ use mathlib.Core.Path.{sym, ap, ◌∙◌}
 use native.Mathlib.Omega.{arith}
 use Rattle.header.specs.Answers.{judged_answer, directive_answer}
 use Rattle.nak.proofs.Reading.{refused_pdu, lies, scope_short, scope_there, nak_read}
-use borrow.Author.Rules.{rules}
 use Rattle.nak.proofs.Nak.from_bytes.Goals as goal
 
 pub slice_bounds-nak_in-count : goal.slice_bounds-nak_in-count

@@ -1,6 +1,5 @@
 -- `nak::Nak::get_segment_requests_iterator` meets its contract: the area's length decides.
 use Rattle.nak.proofs.Walking.{no_requests, some_requests}
-use borrow.Author.Rules.{rules}
 use Rattle.nak.proofs.Nak.get_segment_requests_iterator.Goals as goal
 
 pub returns-then-request_area-eq0 : goal.returns-then-request_area-eq0

@@ -1,6 +1,5 @@
 -- `nak::Nak::request_area` meets its contract: the part of the bytes, or none.
 use Rattle.nak.proofs.Walking.{backwards, beyond, within}
-use borrow.Author.Rules.{rules}
 use Rattle.nak.proofs.Nak.request_area.Goals as goal
 
 pub returns-then-stop-area : goal.returns-then-stop-area

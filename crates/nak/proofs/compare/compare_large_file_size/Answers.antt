@@ -2,7 +2,6 @@
 use mathlib.Core.Path.{refl, sym, ap, ◌∙◌}
 use Rattle.nak.specs.Reading.{nak_answer}
 use Rattle.nak.proofs.Comparing.{refused_reading, list_decides}
-use borrow.Author.Rules.{rules}
 use Rattle.nak.proofs.compare.compare_large_file_size.Goals as goal
 
 pub returns-in-Refused : goal.returns-in-Refused

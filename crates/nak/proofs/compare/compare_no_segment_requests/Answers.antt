@@ -3,7 +3,6 @@ use mathlib.Core.Path.{refl, sym, ap, ◌∙◌}
 use mathlib.Core.List.{[]}
 use Rattle.nak.specs.Reading.{nak_answer}
 use Rattle.nak.proofs.Comparing.{refused_reading, nothing_decides}
-use borrow.Author.Rules.{rules}
 use Rattle.nak.proofs.compare.compare_no_segment_requests.Goals as goal
 
 pub returns-in-Refused : goal.returns-in-Refused

@@ -1,11 +1,9 @@
 -- `nak::compare::compare_read` meets its contract: the record's refusal, the NAK's own, or header and scope and the list decide.
 use mathlib.Core.Path.{refl, sym, ap, ◌∙◌}
-use borrow.Author.Tests.{not-true, not-false}
 use Rattle.header.specs.Answers.{judged_answer}
 use Rattle.header.specs.Pdu.{data_answer}
 use Rattle.header.proofs.Pdus.{passed_directive}
 use Rattle.nak.proofs.Comparing.{refused_record, refused_own, judged_filled, refused_judging, not_alike, alike}
-use borrow.Author.Rules.{rules}
 use Rattle.nak.proofs.compare.compare_read.Goals as goal
 
 pub returns-in-Refused : goal.returns-in-Refused

@@ -1,11 +1,7 @@
 -- `nak::compare::holds_normal` meets its contract. The loop's invariant: what is left of the area against the numbers that are left decides.
-use Prim.Native.Nat.{◌-◌, ◌≤◌}
-use mathlib.Core.Path.{◌≡◌, refl, ◌∙◌}
+use mathlib.Core.Path.{refl, ◌∙◌}
 use native.Mathlib.Omega.{arith}
-use lib.ListN.{length, drop}
-use Rattle.nak.specs.Comparing.{holds_numbers}
 use Rattle.nak.proofs.Comparing.{number_short, number_differs, number_same, numbers_end}
-use borrow.Author.Rules.{rules}
 use Rattle.nak.proofs.compare.holds_normal.Goals as goal
 
 pub loop-i-init : goal.loop-i-init

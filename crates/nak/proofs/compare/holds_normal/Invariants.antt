@@ -1,11 +1,8 @@
 -- `nak::compare::holds_normal` meets its contract. The loop's invariant: what is left of the area against the numbers that are left decides.
 use Prim.Native.Nat.{◌-◌, ◌≤◌}
-use mathlib.Core.Path.{◌≡◌, refl, ◌∙◌}
-use native.Mathlib.Omega.{arith}
+use mathlib.Core.Path.{◌≡◌}
 use lib.ListN.{length, drop}
 use Rattle.nak.specs.Comparing.{holds_numbers}
-use Rattle.nak.proofs.Comparing.{number_short, number_differs, number_same, numbers_end}
-use borrow.Author.Rules.{rules}
 use Rattle.nak.proofs.compare.holds_normal.Given as goal
 
 abbrev pub invariant-loop-i : goal.invariant-loop-i

@@ -1,8 +1,6 @@
 -- `nak::compare::same_nak` meets its contract: header, start and end of scope, one after the other.
 use mathlib.Core.Path.{sym, ◌∙◌}
-use borrow.Author.Tests.{not-true, not-false}
 use Rattle.nak.proofs.Comparing.{other_header, other_start, the_end}
-use borrow.Author.Rules.{rules}
 use Rattle.nak.proofs.compare.same_nak.Goals as goal
 
 pub returns-then-not-eq : goal.returns-then-not-eq

@@ -1,7 +1,6 @@
 -- `nak::compare::verdict` meets its contract: yes and no are its two answers.
 use mathlib.Core.Path.{sym, ap}
 use Rattle.fields.specs.Answer.{accepted}
-use borrow.Author.Rules.{rules}
 use Rattle.nak.proofs.compare.verdict.Goals as goal
 
 pub returns-then-same : goal.returns-then-same

@@ -1,10 +1,8 @@
 -- `nak::count::calculate_max_segment_requests` meets its contract: the record's refusal, 15, or the smaller of both counts.
 use mathlib.Core.Path.{sym, ap, ◌∙◌}
-use native.Mathlib.Omega.{arith}
 use Rattle.header.specs.Answers.{judged_answer}
 use Rattle.header.proofs.Pdus.{passed_directive}
 use Rattle.nak.proofs.Counting.{refused_count, too_small, limited, counted}
-use borrow.Author.Rules.{rules}
 use Rattle.nak.proofs.count.calculate_max_segment_requests.Goals as goal
 
 pub returns-then-size-least : goal.returns-then-size-least

@@ -1,7 +1,6 @@
 -- `nak::count::least_packet` meets its contract: where the requests start, and a checksum.
 use native.Mathlib.Omega.{arith}
 use Rattle.nak.proofs.Counting.{least_is}
-use borrow.Author.Rules.{rules}
 use Rattle.nak.proofs.count.least_packet.Goals as goal
 
 pub returns : goal.returns

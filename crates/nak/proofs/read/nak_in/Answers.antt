@@ -1,7 +1,6 @@
 -- `nak::read::nak_in` meets its contract: each number is read at its place.
 use native.Mathlib.Omega.{arith}
 use Rattle.nak.proofs.Reading.{scope_lies, nak_is}
-use borrow.Author.Rules.{rules}
 use Rattle.nak.proofs.read.nak_in.Goals as goal
 
 pub offset_at-start_of_scope-requires : goal.offset_at-start_of_scope-requires

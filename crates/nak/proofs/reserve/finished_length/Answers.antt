@@ -7,7 +7,6 @@ use Rattle.header.specs.Answers.{judged_answer}
 use Rattle.header.specs.Pdu.{data_answer}
 use Rattle.nak.specs.Writing.{data_length, too_many}
 use Rattle.nak.proofs.Tests.{finish_refused, finish_scope, finish_passes}
-use borrow.Author.Rules.{rules}
 use Rattle.nak.proofs.reserve.finished_length.Goals as goal
 
 pub returns-in-Refused : goal.returns-in-Refused

@@ -6,7 +6,6 @@ use Rattle.fields.proofs.Judging.{judged_passed}
 use Rattle.header.specs.Answers.{judged_answer}
 use Rattle.nak.specs.Writing.{too_many}
 use Rattle.nak.proofs.Tests.{pairs_fit, reserve_refused, reserve_passes}
-use borrow.Author.Rules.{rules}
 use Rattle.nak.proofs.reserve.pairs_length.Goals as goal
 
 pub length_of-requires : goal.length_of-requires

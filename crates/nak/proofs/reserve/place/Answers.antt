@@ -1,6 +1,5 @@
 -- `nak::reserve::place` meets its contract: where the requests start and stop.
 use Rattle.nak.proofs.Reserving.{place_is}
-use borrow.Author.Rules.{rules}
 use Rattle.nak.proofs.reserve.place.Goals as goal
 
 pub returns : goal.returns

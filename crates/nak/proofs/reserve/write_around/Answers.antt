@@ -3,7 +3,6 @@ use mathlib.Core.Path.{sym, ap, ◌∙◌}
 use Rattle.header.specs.Answers.{length_answer}
 use Rattle.nak.specs.Reserving.{placed}
 use Rattle.nak.proofs.Reserving.{not_finished, finish_goes, finished}
-use borrow.Author.Rules.{rules}
 use Rattle.nak.proofs.reserve.write_around.Goals as goal
 
 pub put_scope-requires : goal.put_scope-requires

@@ -7,7 +7,6 @@ use Rattle.fields.proofs.Judging.{judged_passed}
 use Rattle.header.specs.Answers.{judged_answer}
 use Rattle.nak.specs.Writing.{too_many}
 use Rattle.nak.proofs.Tests.{odd_count_lem, bad_scope, too_many_lem, none_holds, pairs_fit}
-use borrow.Author.Rules.{rules}
 use Rattle.nak.proofs.write.data_length.Goals as goal
 
 pub returns-then-count-ne0 : goal.returns-then-count-ne0

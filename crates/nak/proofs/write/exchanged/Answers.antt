@@ -2,7 +2,6 @@
 -- two halves below 2^32 are a number below 2^64
 use Prim.Native.Nat.{ℕ, ◌+◌, ◌*◌, ◌/◌, ◌<◌}
 use native.Mathlib.Omega.{arith}
-use borrow.Author.Rules.{rules}
 use Rattle.nak.proofs.write.exchanged.Goals as goal
 
 halves : (q r : ℕ) → q < 4294967296 → r < 4294967296 → r * 4294967296 + q < 18446744073709551616

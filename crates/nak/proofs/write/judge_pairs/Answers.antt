@@ -1,6 +1,5 @@
 -- `nak::write::judge_pairs` meets its contract: the greatest count decides.
 use Rattle.nak.proofs.Tests.{many_pairs, few_pairs}
-use borrow.Author.Rules.{rules}
 use Rattle.nak.proofs.write.judge_pairs.Goals as goal
 
 pub returns-then-most-pairs : goal.returns-then-most-pairs

@@ -1,8 +1,6 @@
 -- `nak::write::judge_scope` meets its contract: in a normal NAK the scope decides.
 use mathlib.Core.Path.{sym, ◌∙◌}
-use borrow.Author.Tests.{not-true, not-false}
-use Rattle.nak.proofs.Tests.{scope_large, scope_refused, scope_normal}
-use borrow.Author.Rules.{rules}
+use Rattle.nak.proofs.Tests.{scope_refused, scope_normal}
 use Rattle.nak.proofs.write.judge_scope.Goals as goal
 
 pub returns-then-not-scope_fits : goal.returns-then-not-scope_fits

@@ -1,7 +1,6 @@
 -- `nak::write::length_of` meets its contract: so many pairs fit 16 bits.
 use native.Mathlib.Omega.{arith}
 use Rattle.nak.proofs.Tests.{pairs_bytes, data_is}
-use borrow.Author.Rules.{rules}
 use Rattle.nak.proofs.write.length_of.Goals as goal
 
 pub overflow_mul-wide : goal.overflow_mul-wide

@@ -2,7 +2,6 @@
 use native.Mathlib.Omega.{arith}
 use Rattle.nak.proofs.Tests.{scope_passed}
 use Rattle.nak.proofs.Storing.{scope_stored}
-use borrow.Author.Rules.{rules}
 use Rattle.nak.proofs.write.put_scope.Goals as goal
 
 pub returns : goal.returns

@@ -1,8 +1,6 @@
 -- `nak::write::scope_fits` meets its contract: both ends are asked.
 use mathlib.Core.Path.{sym, ◌∙◌}
-use borrow.Author.Tests.{not-true, not-false}
 use Rattle.nak.proofs.Tests.{scope_no, scope_as}
-use borrow.Author.Rules.{rules}
 use Rattle.nak.proofs.write.scope_fits.Goals as goal
 
 pub returns-then-not-fits_size : goal.returns-then-not-fits_size

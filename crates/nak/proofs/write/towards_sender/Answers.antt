@@ -1,7 +1,6 @@
 -- `nak::write::towards_sender` meets its contract: direction, then the file flag.
-use mathlib.Core.Path.{sym, ap, ◌∙◌}
+use mathlib.Core.Path.{ap, ◌∙◌}
 use Rattle.header.specs.Header.{with_file_flag}
-use borrow.Author.Rules.{rules}
 use Rattle.nak.proofs.write.towards_sender.Goals as goal
 
 pub returns : goal.returns

@@ -1,7 +1,6 @@
 -- `nak::write::two_at` meets its contract: two numbers below 2^32 are one below 2^64.
 use Prim.Native.Nat.{◌+◌}
 use native.Mathlib.Omega.{arith}
-use borrow.Author.Rules.{rules}
 use Rattle.nak.proofs.write.two_at.Goals as goal
 
 pub overflow_cast-low : goal.overflow_cast-low

@@ -3,7 +3,6 @@ use mathlib.Core.Path.{sym, ap, ◌∙◌}
 use Rattle.header.specs.declared.flags.LargeFileFlag.TheVariants.{Large}
 use Rattle.header.specs.Answers.{length_answer}
 use Rattle.nak.proofs.Writing.{not_written, scope_goes, numbers_go, nak_written}
-use borrow.Author.Rules.{rules}
 use Rattle.nak.proofs.write.write_large_file_size.Goals as goal
 
 pub put_scope-requires : goal.put_scope-requires

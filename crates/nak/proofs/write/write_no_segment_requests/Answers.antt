@@ -1,7 +1,6 @@
 -- `nak::write::write_no_segment_requests` meets its contract: a NAK around no pair is one with no list.
 use mathlib.Core.Path.{◌∙◌}
 use Rattle.nak.proofs.Reserving.{none_finished}
-use borrow.Author.Rules.{rules}
 use Rattle.nak.proofs.write.write_no_segment_requests.Goals as goal
 
 pub returns : goal.returns

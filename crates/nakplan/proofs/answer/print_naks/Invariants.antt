@@ -1,6 +1,5 @@
 -- `nakplan::answer::print_naks` is safe and ends: it goes through as many as it is told.
 use Prim.Native.Nat.{◌≤◌}
-use borrow.Author.Rules.{rules}
 use Rattle.nakplan.proofs.answer.print_naks.Given as goal
 
 abbrev pub invariant-loop-left : goal.invariant-loop-left

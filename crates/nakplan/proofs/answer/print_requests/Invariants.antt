@@ -1,6 +1,5 @@
 -- `nakplan::answer::print_requests` is safe and ends: it prints as many times as it is told.
 use Prim.Native.Nat.{◌≤◌}
-use borrow.Author.Rules.{rules}
 use Rattle.nakplan.proofs.answer.print_requests.Given as goal
 
 abbrev pub invariant-loop-left : goal.invariant-loop-left

@@ -1,8 +1,6 @@
 -- `nakplan::input::next_line` is safe and ends: each turn stores a byte of the line.
-use mathlib.Core.Path.{◌≡◌}
-use Prim.Native.Nat.{◌-◌, ◌≤◌}
 use native.Mathlib.Omega.{arith}
-use lib.ListN.{length, length-set}
+use lib.ListN.{length-set}
 use borrow.Author.Rules.{rules}
 use Rattle.nakplan.proofs.input.next_line.Goals as goal
 

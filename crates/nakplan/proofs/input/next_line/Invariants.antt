@@ -1,9 +1,7 @@
 -- `nakplan::input::next_line` is safe and ends: each turn stores a byte of the line.
 use mathlib.Core.Path.{◌≡◌}
 use Prim.Native.Nat.{◌-◌, ◌≤◌}
-use native.Mathlib.Omega.{arith}
-use lib.ListN.{length, length-set}
-use borrow.Author.Rules.{rules}
+use lib.ListN.{length}
 use Rattle.nakplan.proofs.input.next_line.Given as goal
 
 abbrev pub invariant-loop-i : goal.invariant-loop-i

@@ -1,6 +1,5 @@
 -- `nakplan::task::is_header` is safe and ends: seven flags, then a length and three widths.
 use Prim.Native.Nat.{◌-◌, ◌≤◌}
-use borrow.Author.Rules.{rules}
 use Rattle.nakplan.proofs.task.is_header.Given as goal
 
 abbrev pub invariant-loop-i : goal.invariant-loop-i

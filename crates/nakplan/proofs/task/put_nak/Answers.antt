@@ -1,7 +1,6 @@
 -- `nakplan::task::put_nak` is safe: what it stores lies in the numbers.
 use native.Mathlib.Omega.{arith}
 use lib.ListN.{length-set}
-use borrow.Author.Rules.{rules}
 use Rattle.nakplan.proofs.task.put_nak.Goals as goal
 
 pub bounds-naks-at-2 : goal.bounds-naks-at-2

@@ -1,7 +1,6 @@
 -- `nakplan::words::end_of` is safe and ends: each turn is a place further on.
 use Prim.Native.Nat.{◌-◌, ◌≤◌}
 use lib.ListN.{length}
-use borrow.Author.Rules.{rules}
 use Rattle.nakplan.proofs.words.end_of.Given as goal
 
 abbrev pub invariant-loop-i : goal.invariant-loop-i

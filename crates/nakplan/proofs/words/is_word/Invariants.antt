@@ -1,7 +1,6 @@
 -- `nakplan::words::is_word` is safe and ends: each turn is a byte of the word.
 use Prim.Native.Nat.{◌-◌, ◌≤◌}
 use lib.ListN.{length}
-use borrow.Author.Rules.{rules}
 use Rattle.nakplan.proofs.words.is_word.Given as goal
 
 abbrev pub invariant-loop-k : goal.invariant-loop-k

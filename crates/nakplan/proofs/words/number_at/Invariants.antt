@@ -1,7 +1,6 @@
 -- `nakplan::words::number_at` is safe and ends: a value that ten times over and a digit more would not fit 64 bits is no number.
 use Prim.Native.Nat.{◌-◌, ◌≤◌}
 use lib.ListN.{length}
-use borrow.Author.Rules.{rules}
 use Rattle.nakplan.proofs.words.number_at.Given as goal
 
 abbrev pub invariant-loop-i : goal.invariant-loop-i

@@ -1,8 +1,6 @@
 -- `nakplan::words::numbers_in` is safe and ends: each turn stores a number.
-use mathlib.Core.Path.{◌≡◌}
-use Prim.Native.Nat.{◌-◌, ◌≤◌}
 use native.Mathlib.Omega.{arith}
-use lib.ListN.{length, length-set}
+use lib.ListN.{length-set}
 use borrow.Author.Rules.{rules}
 use Rattle.nakplan.proofs.words.numbers_in.Goals as goal
 

@@ -1,9 +1,7 @@
 -- `nakplan::words::numbers_in` is safe and ends: each turn stores a number.
 use mathlib.Core.Path.{◌≡◌}
 use Prim.Native.Nat.{◌-◌, ◌≤◌}
-use native.Mathlib.Omega.{arith}
-use lib.ListN.{length, length-set}
-use borrow.Author.Rules.{rules}
+use lib.ListN.{length}
 use Rattle.nakplan.proofs.words.numbers_in.Given as goal
 
 abbrev pub invariant-loop-count : goal.invariant-loop-count

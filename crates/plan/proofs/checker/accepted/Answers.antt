@@ -1,9 +1,7 @@
 -- `plan::checker::accepted` meets its contract. Each exit has its law.
 use mathlib.Core.Path.{sym, ◌∙◌}
 use native.Mathlib.Omega.{arith}
-use borrow.Author.Tests.{not-true, not-false}
 use Rattle.plan.proofs.Accepting.{odd_threes, too_many_lem, outside, not_gaps, as_joined}
-use borrow.Author.Rules.{rules}
 use Rattle.plan.proofs.checker.accepted.Goals as goal
 
 pub returns-then-naks-ne0 : goal.returns-then-naks-ne0

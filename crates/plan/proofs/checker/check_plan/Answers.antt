@@ -2,7 +2,6 @@
 use mathlib.Core.Path.{sym, ap, ◌∙◌}
 use Rattle.nak.specs.Counting.{count_answer}
 use Rattle.plan.proofs.Judging.{good, check_refused, check_made}
-use borrow.Author.Rules.{rules}
 use Rattle.plan.proofs.checker.check_plan.Goals as goal
 
 pub accepted-requires : goal.accepted-requires

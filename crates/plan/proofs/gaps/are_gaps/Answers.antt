@@ -1,12 +1,10 @@
 -- `plan::gaps::are_gaps` meets its contract. The loop's invariant: what is left of the requests is what is left of the gaps exactly where the whole is.
-use mathlib.Core.Path.{◌≡◌, refl, sym, ◌∙◌}
+use mathlib.Core.Path.{refl, sym, ◌∙◌}
 use native.Mathlib.Omega.{arith}
-use Prim.Native.Nat.{◌-◌, ◌≤◌}
-use lib.ListN.{length, drop}
+use lib.ListN.{drop}
 use Rattle.ranges.specs.Pairs.{twos}
-use Rattle.plan.specs.Gaps.{gaps, same_pairs}
+use Rattle.plan.specs.Gaps.{gaps}
 use Rattle.plan.proofs.GapLaws.{same_end, same_lack, same_from, same_to, same_on}
-use borrow.Author.Rules.{rules}
 use Rattle.plan.proofs.gaps.are_gaps.Goals as goal
 
 pub loop-gap-init : goal.loop-gap-init

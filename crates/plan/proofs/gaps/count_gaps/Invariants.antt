@@ -1,12 +1,9 @@
 -- `plan::gaps::count_gaps` meets its contract. The loop's invariant: those counted and those left are all.
 use mathlib.Core.Path.{◌≡◌}
-use native.Mathlib.Omega.{arith}
 use Prim.Native.Nat.{◌+◌, ◌-◌, ◌≤◌}
 use lib.ListN.{length, drop}
 use Rattle.ranges.specs.Pairs.{twos}
 use Rattle.plan.specs.Gaps.{gaps}
-use Rattle.plan.proofs.Storing.{numbers_few, count_none, count_one}
-use borrow.Author.Rules.{rules}
 use Rattle.plan.proofs.gaps.count_gaps.Given as goal
 
 abbrev pub invariant-loop-gap : goal.invariant-loop-gap

@@ -1,10 +1,8 @@
 -- `plan::gaps::next_gap` meets its contract. The loop's invariant: the gaps from here on are the gaps that are looked for.
-use mathlib.Core.Path.{◌≡◌, refl, sym, ◌∙◌}
+use mathlib.Core.Path.{refl, sym, ◌∙◌}
 use native.Mathlib.Omega.{arith}
-use Prim.Native.Nat.{◌+◌, ◌-◌, ◌≤◌}
-use lib.ListN.{length, get_or, drop}
-use Rattle.ranges.specs.Pairs.{twos}
-use Rattle.plan.specs.Gaps.{gaps}
+use Prim.Native.Nat.{◌+◌}
+use lib.ListN.{get_or}
 use Rattle.plan.proofs.GapLaws.{greater_least, gap_last, gap_found, gap_covered}
 use borrow.Author.Rules.{rules}
 use Rattle.plan.proofs.gaps.next_gap.Goals as goal

@@ -1,12 +1,9 @@
 -- `plan::gaps::next_gap` meets its contract. The loop's invariant: the gaps from here on are the gaps that are looked for.
-use mathlib.Core.Path.{◌≡◌, refl, sym, ◌∙◌}
-use native.Mathlib.Omega.{arith}
+use mathlib.Core.Path.{◌≡◌}
 use Prim.Native.Nat.{◌+◌, ◌-◌, ◌≤◌}
-use lib.ListN.{length, get_or, drop}
+use lib.ListN.{length, drop}
 use Rattle.ranges.specs.Pairs.{twos}
 use Rattle.plan.specs.Gaps.{gaps}
-use Rattle.plan.proofs.GapLaws.{greater_least, gap_last, gap_found, gap_covered}
-use borrow.Author.Rules.{rules}
 use Rattle.plan.proofs.gaps.next_gap.Given as goal
 
 abbrev pub invariant-loop-i : goal.invariant-loop-i

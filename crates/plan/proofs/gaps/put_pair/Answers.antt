@@ -2,7 +2,6 @@
 use native.Mathlib.Omega.{arith}
 use lib.ListN.{length-set}
 use Rattle.plan.proofs.Storing.{set_two}
-use borrow.Author.Rules.{rules}
 use Rattle.plan.proofs.gaps.put_pair.Goals as goal
 
 pub bounds-out-at-2 : goal.bounds-out-at-2

@@ -1,15 +1,11 @@
 -- `plan::gaps::store_gaps` meets its contract. The loop's invariant: storing the gaps that are left gives what is to be stored.
-use mathlib.Core.Path.{◌≡◌, refl, sym, ap, ◌∙◌}
-use native.Mathlib.Omega.{arith}
+use mathlib.Core.Path.{◌≡◌}
 use Prim.Native.Nat.{◌+◌, ◌-◌, ◌*◌, ◌≤◌}
 use lib.ListN.{length, drop}
 use Rattle.ranges.specs.Pairs.{twos}
 use Rattle.plan.specs.Gaps.{gaps}
-use mathlib.Core.List.{[], ◌∷◌}
-use lib.Seq.{sets, length-sets}
+use lib.Seq.{sets}
 use Rattle.plan.specs.Plans.{pair_numbers}
-use Rattle.plan.proofs.Storing.{count_one, store_none, store_one}
-use borrow.Author.Rules.{rules}
 use Rattle.plan.proofs.gaps.store_gaps.Given as goal
 
 abbrev pub invariant-loop-gap : goal.invariant-loop-gap

@@ -1,11 +1,9 @@
 -- `plan::judge::apart_behind` meets its contract. The loop's invariant: what is left is apart exactly where the whole is.
-use mathlib.Core.Path.{◌≡◌, refl, sym, ◌∙◌}
+use mathlib.Core.Path.{◌≡◌}
 use Prim.Native.Nat.{◌-◌, ◌≤◌}
 use lib.ListN.{length, drop}
 use Rattle.ranges.specs.Pairs.{twos}
 use Rattle.plan.specs.Missing.{apart_behind}
-use Rattle.plan.proofs.Apart.{behind_end, behind_touch, behind_empty, behind_on}
-use borrow.Author.Rules.{rules}
 use Rattle.plan.proofs.judge.apart_behind.Given as goal
 
 abbrev pub invariant-loop-i : goal.invariant-loop-i

@@ -1,7 +1,6 @@
 -- `plan::judge::are_apart` meets its contract. The first pair, and then those behind it.
 use mathlib.Core.Path.{◌∙◌}
 use Rattle.plan.proofs.Apart.{apart_short, apart_empty, apart_first}
-use borrow.Author.Rules.{rules}
 use Rattle.plan.proofs.judge.are_apart.Goals as goal
 
 pub returns-then-ranges-lt2 : goal.returns-then-ranges-lt2

@@ -3,7 +3,6 @@ use mathlib.Core.Path.{sym, ap, ◌∙◌}
 use Rattle.header.specs.Answers.{judged_answer}
 use Rattle.nak.specs.Counting.{count_answer}
 use Rattle.plan.proofs.Judging.{refused_first, refused_behind, none_refused}
-use borrow.Author.Rules.{rules}
 use Rattle.plan.proofs.judge.judge.Goals as goal
 
 pub returns-in-Refused : goal.returns-in-Refused

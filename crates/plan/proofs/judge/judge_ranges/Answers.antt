@@ -1,8 +1,6 @@
 -- `plan::judge::judge_ranges` meets its contract. Each exit's answer is the first test that holds.
 use mathlib.Core.Path.{sym, ◌∙◌}
-use borrow.Author.Tests.{not-true, not-false}
 use Rattle.plan.proofs.Judging.{odd_received, odd_requests, not_apart, backwards, as_scope}
-use borrow.Author.Rules.{rules}
 use Rattle.plan.proofs.judge.judge_ranges.Goals as goal
 
 pub returns-then-count-ne0 : goal.returns-then-count-ne0

@@ -1,12 +1,9 @@
 -- `plan::naks::all_within` meets its contract. The loop's invariant: the requests left lie in the scope exactly where all do.
-use mathlib.Core.Path.{◌≡◌, refl, sym, ◌∙◌}
-use native.Mathlib.Omega.{arith}
+use mathlib.Core.Path.{◌≡◌}
 use Prim.Native.Nat.{◌+◌, ◌*◌, ◌≤◌}
 use lib.ListN.{length, take, drop}
 use Rattle.ranges.specs.Pairs.{twos}
 use Rattle.plan.specs.Plans.{all_within}
-use Rattle.plan.proofs.Walks.{within_end, within_low, within_high, within_on}
-use borrow.Author.Rules.{rules}
 use Rattle.plan.proofs.naks.all_within.Given as goal
 
 abbrev pub invariant-loop-left : goal.invariant-loop-left

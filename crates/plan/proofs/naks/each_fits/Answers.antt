@@ -1,9 +1,6 @@
 -- `plan::naks::each_fits` meets its contract. The loop's invariant: the NAKs left fit exactly where all do.
-use mathlib.Core.Path.{◌≡◌, refl, sym, ◌∙◌}
+use mathlib.Core.Path.{refl, sym, ◌∙◌}
 use native.Mathlib.Omega.{arith}
-use Prim.Native.Nat.{◌-◌, ◌≤◌}
-use lib.ListN.{length, drop}
-use Rattle.plan.specs.Plans.{threes, each_fits}
 use Rattle.plan.proofs.Walks.{fits_end, fits_not, fits_on}
 use borrow.Author.Rules.{rules}
 use Rattle.plan.proofs.naks.each_fits.Goals as goal

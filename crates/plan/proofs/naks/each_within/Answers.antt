@@ -1,13 +1,7 @@
 -- `plan::naks::each_within` meets its contract. The loop's invariant: of the NAKs and requests left it holds exactly where it holds of all.
-use mathlib.Core.Path.{◌≡◌, refl, sym, ◌∙◌}
+use mathlib.Core.Path.{refl, sym, ◌∙◌}
 use native.Mathlib.Omega.{arith}
-use Prim.Native.Nat.{◌-◌, ◌≤◌}
-use lib.ListN.{length, drop}
-use Rattle.ranges.specs.Pairs.{twos}
-use Rattle.plan.specs.Plans.{threes, each_within}
-use borrow.Author.Tests.{not-true, not-false}
 use Rattle.plan.proofs.Walks.{each_end, each_lack, each_out, each_on}
-use borrow.Author.Rules.{rules}
 use Rattle.plan.proofs.naks.each_within.Goals as goal
 
 pub loop-i-init : goal.loop-i-init

@@ -2,7 +2,6 @@
 use native.Mathlib.Omega.{arith}
 use lib.ListN.{length-set}
 use Rattle.plan.proofs.Storing.{set_three}
-use borrow.Author.Rules.{rules}
 use Rattle.plan.proofs.naks.put_nak.Goals as goal
 
 pub bounds-out-at-2 : goal.bounds-out-at-2

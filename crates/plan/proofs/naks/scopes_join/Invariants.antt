@@ -1,11 +1,8 @@
 -- `plan::naks::scopes_join` meets its contract. The loop's invariant: the scopes left join up exactly where all do.
-use mathlib.Core.Path.{◌≡◌, sym, ◌∙◌}
-use native.Mathlib.Omega.{arith}
+use mathlib.Core.Path.{◌≡◌}
 use Prim.Native.Nat.{◌-◌, ◌≤◌}
 use lib.ListN.{length, drop}
 use Rattle.plan.specs.Plans.{threes, join_from, scopes_join}
-use Rattle.plan.proofs.Walks.{join_none, join_some, join_end, join_off, join_back, join_on}
-use borrow.Author.Rules.{rules}
 use Rattle.plan.proofs.naks.scopes_join.Given as goal
 
 abbrev pub invariant-loop-i : goal.invariant-loop-i

@@ -1,15 +1,10 @@
 -- `plan::naks::store_naks` meets its contract. The loop's invariant: storing the NAKs that are left gives what is to be stored.
-use mathlib.Core.Path.{◌≡◌, refl, sym, ap, ◌∙◌}
+use mathlib.Core.Path.{refl, sym, ap, ◌∙◌}
 use native.Mathlib.Omega.{arith}
-use Prim.Native.Nat.{◌+◌, ◌-◌, ◌*◌, ◌≤◌, ◌<◌}
-use lib.ListN.{length, drop}
-use Rattle.ranges.specs.Pairs.{twos}
+use lib.ListN.{length}
 use mathlib.Core.List.{[], ◌∷◌}
-use lib.Seq.{sets, length-sets}
-use Rattle.plan.specs.Plans.{nak_numbers}
-use Rattle.plan.specs.Planning.{dealt}
+use lib.Seq.{length-sets}
 use Rattle.plan.proofs.Storing.{enough_more, naks_over, naks_last, naks_turn}
-use borrow.Author.Rules.{rules}
 use Rattle.plan.proofs.naks.store_naks.Goals as goal
 
 pub loop-n-init : goal.loop-n-init

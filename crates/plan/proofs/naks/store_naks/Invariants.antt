@@ -1,15 +1,11 @@
 -- `plan::naks::store_naks` meets its contract. The loop's invariant: storing the NAKs that are left gives what is to be stored.
-use mathlib.Core.Path.{◌≡◌, refl, sym, ap, ◌∙◌}
-use native.Mathlib.Omega.{arith}
+use mathlib.Core.Path.{◌≡◌}
 use Prim.Native.Nat.{◌+◌, ◌-◌, ◌*◌, ◌≤◌, ◌<◌}
 use lib.ListN.{length, drop}
 use Rattle.ranges.specs.Pairs.{twos}
-use mathlib.Core.List.{[], ◌∷◌}
-use lib.Seq.{sets, length-sets}
+use lib.Seq.{sets}
 use Rattle.plan.specs.Plans.{nak_numbers}
 use Rattle.plan.specs.Planning.{dealt}
-use Rattle.plan.proofs.Storing.{enough_more, naks_over, naks_last, naks_turn}
-use borrow.Author.Rules.{rules}
 use Rattle.plan.proofs.naks.store_naks.Given as goal
 
 abbrev pub invariant-loop-n : goal.invariant-loop-n

@@ -1,7 +1,6 @@
 -- `plan::planner::naks_for` meets its contract. A quotient rounded up.
 use native.Mathlib.Omega.{arith}
 use Rattle.plan.proofs.Planning.{naks_none, naks_some, naks_small}
-use borrow.Author.Rules.{rules}
 use Rattle.plan.proofs.planner.naks_for.Goals as goal
 
 pub returns-then-ranges-eq0 : goal.returns-then-ranges-eq0

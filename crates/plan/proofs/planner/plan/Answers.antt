@@ -3,7 +3,6 @@ use mathlib.Core.Path.{sym, ap, ◌∙◌}
 use Rattle.nak.specs.Counting.{count_answer}
 use Rattle.plan.proofs.Judging.{good}
 use Rattle.plan.proofs.Planning.{plan_refused, plan_judged}
-use borrow.Author.Rules.{rules}
 use Rattle.plan.proofs.planner.plan.Goals as goal
 
 pub plan_with-requires : goal.plan_with-requires

@@ -12,7 +12,6 @@ use Rattle.plan.specs.Plans.{pair_numbers}
 use Rattle.plan.proofs.Apart.{apart_says}
 use Rattle.plan.proofs.Exact.{gaps_missing}
 use Rattle.plan.proofs.Planning.{fits_some, naks_enough, naks_positive, none_fit, few_requests, few_naks, all_stored}
-use borrow.Author.Rules.{rules}
 use Rattle.plan.proofs.planner.plan_with.Goals as goal
 
 pub returns-then-none_fits : goal.returns-then-none_fits

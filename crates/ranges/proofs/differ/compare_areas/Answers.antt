@@ -2,10 +2,8 @@
 use mathlib.Core.Path.{ap, ◌∙◌}
 use mathlib.Core.Bool.{true}
 use lib.ListN.{length}
-use borrow.Author.Tests.{not-true, not-false}
 use Rattle.ranges.specs.Within.{laid}
 use Rattle.ranges.proofs.Differing.{others_rise, as_differences, first_wrong, second_wrong, not_one_transaction, too_many_lem, all_stored}
-use borrow.Author.Rules.{rules}
 use Rattle.ranges.proofs.differ.compare_areas.Goals as goal
 
 pub returns-then-pair1-ne0 : goal.returns-then-pair1-ne0

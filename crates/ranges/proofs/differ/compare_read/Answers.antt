@@ -2,7 +2,6 @@
 use mathlib.Core.Path.{sym, ap, ◌∙◌}
 use Rattle.nak.specs.Reading.{nak_answer}
 use Rattle.ranges.proofs.Differing.{second_refused, second_read}
-use borrow.Author.Rules.{rules}
 use Rattle.ranges.proofs.differ.compare_read.Goals as goal
 
 pub returns-in-Refused : goal.returns-in-Refused

@@ -2,7 +2,6 @@
 use mathlib.Core.Path.{sym, ap, ◌∙◌}
 use Rattle.nak.specs.Reading.{nak_answer}
 use Rattle.ranges.proofs.Differing.{first_refused, first_read}
-use borrow.Author.Rules.{rules}
 use Rattle.ranges.proofs.differ.differ.Goals as goal
 
 pub returns-in-Refused : goal.returns-in-Refused

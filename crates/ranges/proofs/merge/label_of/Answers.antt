@@ -1,5 +1,4 @@
 -- `ranges::merge::label_of` meets its contract: each rule has a table of its own.
-use borrow.Author.Rules.{rules}
 use Rattle.ranges.proofs.merge.label_of.Goals as goal
 
 pub returns-in-Differ : goal.returns-in-Differ

@@ -1,13 +1,9 @@
 -- `ranges::merge::merge` meets its contract: storing and counting what is left from here gives all, at each place where a side changes.
-use Prim.Native.Nat.{◌-◌}
 use mathlib.Core.Path.{ap, ◌∙◌}
 use native.Mathlib.Omega.{arith}
 use lib.ListN.{length}
-use Rattle.ranges.specs.Merging.{largest}
-use Rattle.ranges.specs.Within.{pairs_in}
 use Rattle.ranges.proofs.Laying.{length_closed_into}
-use Rattle.ranges.proofs.Merging.{Walk, walk_start, to_ahead, to_inside, walk_turn, walk_end}
-use borrow.Author.Rules.{rules}
+use Rattle.ranges.proofs.Merging.{walk_start, to_ahead, to_inside, walk_turn, walk_end}
 use Rattle.ranges.proofs.merge.merge.Goals as goal
 
 pub loop-at-init : goal.loop-at-init

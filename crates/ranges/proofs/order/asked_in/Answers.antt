@@ -1,6 +1,5 @@
 -- `ranges::order::asked_in` meets its contract: where the others begin, they have their numbers from there on.
 use Rattle.ranges.proofs.Ordering.{area_others, area_disorder, area_metadata}
-use borrow.Author.Rules.{rules}
 use Rattle.ranges.proofs.order.asked_in.Goals as goal
 
 pub returns : goal.returns

@@ -2,7 +2,6 @@
 use Rattle.ranges.proofs.Ordering.{begin_none, begin_start, begin_end, begin_behind}
 use Rattle.ranges.proofs.Sources.{area_step, area_over}
 use mathlib.Core.Path.{sym, ◌∙◌}
-use borrow.Author.Rules.{rules}
 use Rattle.ranges.proofs.order.behind_metadata.Goals as goal
 
 pub returns-then-start-ne0 : goal.returns-then-start-ne0

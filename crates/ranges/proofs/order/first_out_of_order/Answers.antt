@@ -3,12 +3,7 @@ use Rattle.ranges.proofs.Ordering.{order_end, order_before, order_empty, order_g
 use Rattle.ranges.proofs.Sources.{area_step, area_over}
 use Rattle.nak.proofs.Walking.{size_positive}
 use native.Mathlib.Omega.{arith}
-use mathlib.Core.Path.{◌≡◌, refl, sym, ◌∙◌}
-use Prim.Native.Nat.{◌+◌, ◌-◌, ◌≤◌}
-use lib.ListN.{length}
-use Rattle.ranges.specs.Within.{area_pairs}
-use Rattle.ranges.specs.Order.{out_of_order}
-use borrow.Author.Rules.{rules}
+use mathlib.Core.Path.{refl, sym, ◌∙◌}
 use Rattle.ranges.proofs.order.first_out_of_order.Goals as goal
 
 pub loop-start-init : goal.loop-start-init

@@ -1,14 +1,9 @@
 -- `ranges::order::first_out_of_order` meets its contract: the number of the first pair out of order among those that are left is that of all.
-use Rattle.ranges.proofs.Ordering.{order_end, order_before, order_empty, order_goes_on}
-use Rattle.ranges.proofs.Sources.{area_step, area_over}
-use Rattle.nak.proofs.Walking.{size_positive}
-use native.Mathlib.Omega.{arith}
-use mathlib.Core.Path.{◌≡◌, refl, sym, ◌∙◌}
+use mathlib.Core.Path.{◌≡◌}
 use Prim.Native.Nat.{◌+◌, ◌-◌, ◌≤◌}
 use lib.ListN.{length}
 use Rattle.ranges.specs.Within.{area_pairs}
 use Rattle.ranges.specs.Order.{out_of_order}
-use borrow.Author.Rules.{rules}
 use Rattle.ranges.proofs.order.first_out_of_order.Given as goal
 
 abbrev pub invariant-loop-start : goal.invariant-loop-start

@@ -1,9 +1,7 @@
 -- `ranges::owed::entry` meets its contract: no state, a cut entry, or what is answered of its contents.
 use mathlib.Core.Path.{sym, ap, ◌∙◌}
-use borrow.Author.Tests.{not-true, not-false}
 use Rattle.header.specs.Answers.{judged_answer}
 use Rattle.ranges.proofs.Entering.{no_state, entry_cut, entry_refused, entry_passed}
-use borrow.Author.Rules.{rules}
 use Rattle.ranges.proofs.owed.entry.Goals as goal
 
 pub returns-then-not-is_state : goal.returns-then-not-is_state

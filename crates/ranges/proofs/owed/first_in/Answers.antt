@@ -1,6 +1,5 @@
 -- `ranges::owed::first_in` meets its contract: a place with 0 says that there is none.
 use Rattle.ranges.proofs.Owing.{first_none, first_some}
-use borrow.Author.Rules.{rules}
 use Rattle.ranges.proofs.owed.first_in.Goals as goal
 
 pub returns-then-state-eq0 : goal.returns-then-state-eq0

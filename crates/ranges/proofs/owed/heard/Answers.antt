@@ -3,7 +3,6 @@ use mathlib.Core.Path.{sym, ap, ◌∙◌}
 use Rattle.nak.specs.Reading.{nak_answer}
 use Rattle.ranges.proofs.Ordering.{disorder_none}
 use Rattle.ranges.proofs.Entering.{heard_refused, heard_wrong, heard_differs, heard_owes}
-use borrow.Author.Rules.{rules}
 use Rattle.ranges.proofs.owed.heard.Goals as goal
 
 pub returns-then-asked-ne0 : goal.returns-then-asked-ne0

@@ -1,7 +1,6 @@
 -- `ranges::owed::is_state` meets its contract: the count is tested, and then the ranges.
 use native.Mathlib.Omega.{arith}
 use Rattle.ranges.proofs.Memory.{state_many, state_few}
-use borrow.Author.Rules.{rules}
 use Rattle.ranges.proofs.owed.is_state.Goals as goal
 
 pub returns-then-count-gt-MOST : goal.returns-then-count-gt-MOST

@@ -2,7 +2,6 @@
 use native.Mathlib.Omega.{arith}
 use Rattle.ranges.proofs.Memory.{is_state_lem}
 use Rattle.ranges.proofs.Entering.{owe_many, owe_done}
-use borrow.Author.Rules.{rules}
 use Rattle.ranges.proofs.owed.owe.Goals as goal
 
 pub merged_with-owed-requires : goal.merged_with-owed-requires

@@ -3,7 +3,6 @@ use mathlib.Core.Path.{◌∙◌}
 use native.Mathlib.Omega.{arith}
 use Rattle.fields.proofs.BigEndian.{at_number}
 use Rattle.ranges.proofs.Entering.{resent_wrong, resent_owes}
-use borrow.Author.Rules.{rules}
 use Rattle.ranges.proofs.owed.resent.Goals as goal
 
 pub returns-then-to-from : goal.returns-then-to-from

@@ -1,12 +1,7 @@
 -- `ranges::owed::rise` meets its contract. The loop's invariant: testing the ranges that are left gives the answer.
-use Prim.Native.Nat.{◌*◌, ◌-◌, ◌≤◌}
-use mathlib.Core.Path.{◌≡◌, refl}
+use mathlib.Core.Path.{refl}
 use native.Mathlib.Omega.{arith}
-use lib.ListN.{take}
-use Rattle.ranges.specs.Pairs.{twos}
-use Rattle.ranges.specs.Memory.{rises}
-use Rattle.ranges.proofs.Memory.{left, rise_before, rise_empty, rise_on, rise_all}
-use borrow.Author.Rules.{rules}
+use Rattle.ranges.proofs.Memory.{rise_before, rise_empty, rise_on, rise_all}
 use Rattle.ranges.proofs.owed.rise.Goals as goal
 
 pub loop-i-init : goal.loop-i-init

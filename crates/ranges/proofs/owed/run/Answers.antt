@@ -1,12 +1,11 @@
 -- `ranges::owed::run` meets its contract. The loop's invariant: running the rest from here gives the answer.
-use mathlib.Core.Path.{◌≡◌, refl, sym, ap, ◌∙◌}
+use mathlib.Core.Path.{refl, sym, ap, ◌∙◌}
 use Prim.Native.Nat.{◌-◌}
 use native.Mathlib.Omega.{arith}
 use lib.ListN.{length, drop, length-drop}
 use lib.Seq.{take_all}
-use Rattle.ranges.specs.Log.{entry_answer, running}
+use Rattle.ranges.specs.Log.{entry_answer}
 use Rattle.ranges.proofs.Running.{run_end, run_refused, run_turn}
-use borrow.Author.Rules.{rules}
 use Rattle.ranges.proofs.owed.run.Goals as goal
 
 pub loop-at-init : goal.loop-at-init

@@ -1,6 +1,5 @@
 -- `ranges::owed::take_contents` meets its contract: the tag says which entry it is.
 use Rattle.ranges.proofs.Entering.{tag_heard, tag_unknown, tag_length, tag_resent}
-use borrow.Author.Rules.{rules}
 use Rattle.ranges.proofs.owed.take_contents.Goals as goal
 
 pub returns-then-tag-eq-NAK_TAG : goal.returns-then-tag-eq-NAK_TAG

@@ -1,7 +1,6 @@
 -- `ranges::side::in_area` meets its contract: what the cursor shows is the first pair, and its end that none is left.
 use Rattle.ranges.proofs.Sources.{area_pair, area_end}
 use mathlib.Core.Path.{sym, ◌∙◌}
-use borrow.Author.Rules.{rules}
 use Rattle.ranges.proofs.side.in_area.Goals as goal
 
 pub returns-in-Pair : goal.returns-in-Pair

@@ -1,7 +1,6 @@
 -- `ranges::side::in_numbers` meets its contract: two numbers that are there are the first pair, and where fewer are left there is none.
 use Rattle.ranges.proofs.Sources.{numbers_end, numbers_pair}
 use native.Mathlib.Omega.{arith}
-use borrow.Author.Rules.{rules}
 use Rattle.ranges.proofs.side.in_numbers.Goals as goal
 
 pub returns-then-numbers-at : goal.returns-then-numbers-at

@@ -1,5 +1,4 @@
 -- `ranges::side::side_at` meets its contract: the pair that stands in the bytes, or in the numbers.
-use borrow.Author.Rules.{rules}
 use Rattle.ranges.proofs.side.side_at.Goals as goal
 
 pub returns-in-Area : goal.returns-in-Area

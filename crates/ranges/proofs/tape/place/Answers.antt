@@ -2,7 +2,6 @@
 use Rattle.ranges.proofs.Laying.{no_place, place_fits, three_fit, place_three, place_two}
 use lib.ListN.{length-set}
 use native.Mathlib.Omega.{arith}
-use borrow.Author.Rules.{rules}
 use Rattle.ranges.proofs.tape.place.Goals as goal
 
 pub returns-then-out-size : goal.returns-then-out-size

@@ -1,8 +1,6 @@
 -- `ranges::transaction::same_transaction` meets its contract: the sources decide, or the sequence numbers.
 use mathlib.Core.Path.{sym, ◌∙◌}
-use borrow.Author.Tests.{not-true, not-false}
 use Rattle.ranges.proofs.Transactions.{other_source, one_source}
-use borrow.Author.Rules.{rules}
 use Rattle.ranges.proofs.transaction.same_transaction.Goals as goal
 
 pub returns-then-not-eq : goal.returns-then-not-eq

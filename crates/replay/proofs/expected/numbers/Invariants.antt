@@ -1,7 +1,6 @@
 -- `replay::expected::numbers` is safe and ends: the place is within the numbers, and rises.
 use Prim.Native.Nat.{◌≤◌, ◌-◌}
 use lib.ListN.{length}
-use borrow.Author.Rules.{rules}
 use Rattle.replay.proofs.expected.numbers.Given as goal
 
 abbrev pub invariant-loop-i : goal.invariant-loop-i

@@ -1,7 +1,6 @@
 -- `replay::expected::one_by_one` is safe and ends: the place is within half the copied numbers, and rises.
 use Prim.Native.Nat.{◌≤◌, ◌-◌, ◌*◌}
 use lib.ListN.{length}
-use borrow.Author.Rules.{rules}
 use Rattle.replay.proofs.expected.one_by_one.Given as goal
 
 abbrev pub invariant-loop-i : goal.invariant-loop-i

@@ -1,6 +1,5 @@
 -- `replay::expected::same_bytes` is safe and ends: the place is within the arrays, and rises.
 use Prim.Native.Nat.{◌≤◌, ◌-◌}
-use borrow.Author.Rules.{rules}
 use Rattle.replay.proofs.expected.same_bytes.Given as goal
 
 abbrev pub invariant-loop-i : goal.invariant-loop-i

@@ -1,7 +1,4 @@
 -- `replay::list::normal` meets its contract: a store keeps the length, which the count does not exceed.
-use Prim.Native.Nat.{◌≤◌, ◌-◌}
-use mathlib.Core.Path.{◌≡◌}
-use lib.ListN.{length}
 use borrow.Author.Rules.{rules}
 use Rattle.replay.proofs.Counting.{counts}
 use Rattle.replay.proofs.list.normal.Goals as goal

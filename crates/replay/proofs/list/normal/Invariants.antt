@@ -2,8 +2,6 @@
 use Prim.Native.Nat.{◌≤◌, ◌-◌}
 use mathlib.Core.Path.{◌≡◌}
 use lib.ListN.{length}
-use borrow.Author.Rules.{rules}
-use Rattle.replay.proofs.Counting.{counts}
 use Rattle.replay.proofs.list.normal.Given as goal
 
 abbrev pub invariant-loop-i : goal.invariant-loop-i

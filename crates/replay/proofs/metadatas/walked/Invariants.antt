@@ -1,6 +1,5 @@
 -- `replay::metadatas::walked` returns: the count falls to 0.
 use Prim.Native.Nat.{◌≤◌, ◌-◌}
-use borrow.Author.Rules.{rules}
 use Rattle.replay.proofs.metadatas.walked.Given as goal
 
 abbrev pub invariant-loop-i : goal.invariant-loop-i

@@ -1,7 +1,6 @@
 -- `nak::requests::RequestCursor::next` meets its contract: a whole pair, or the end.
 use native.Mathlib.Omega.{arith}
 use Rattle.nak.proofs.Walking.{next_end, next_pair}
-use borrow.Author.Rules.{rules}
 use Rattle.nak.proofs.requests.RequestCursor.next.Goals as goal
 
 pub returns-then-area-at : goal.returns-then-area-at

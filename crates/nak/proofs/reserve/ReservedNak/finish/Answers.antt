@@ -1,7 +1,6 @@
 -- `nak::reserve::ReservedNak::finish` meets its contract: the NAK around the requests, or no byte changed.
 use mathlib.Core.Path.{◌∙◌}
 use Rattle.nak.proofs.Reserving.{as_placed}
-use borrow.Author.Rules.{rules}
 use Rattle.nak.proofs.reserve.ReservedNak.finish.Goals as goal
 
 pub returns : goal.returns

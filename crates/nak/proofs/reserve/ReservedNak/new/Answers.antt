@@ -2,7 +2,6 @@
 use mathlib.Core.Path.{sym, ap, ◌∙◌}
 use Rattle.header.specs.Answers.{length_answer}
 use Rattle.nak.proofs.Reserving.{not_reserved, reserved_is}
-use borrow.Author.Rules.{rules}
 use Rattle.nak.proofs.reserve.ReservedNak.new.Goals as goal
 
 pub returns-in-Refused : goal.returns-in-Refused

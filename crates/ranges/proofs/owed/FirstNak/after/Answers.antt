@@ -1,6 +1,5 @@
 -- `ranges::owed::FirstNak::after` meets its contract: what is there stays, and the first NAK is put where there is none.
 use Rattle.ranges.proofs.Owing.{after_none, after_some}
-use borrow.Author.Rules.{rules}
 use Rattle.ranges.proofs.owed.FirstNak.after.Goals as goal
 
 pub returns-in-Nothing : goal.returns-in-Nothing

@@ -1,6 +1,5 @@
 -- `ranges::owed::FirstNak::differs` meets its contract: nothing differs from no NAK; else source, then sequence number decide.
 use Rattle.ranges.proofs.Owing.{differs_none, differs_source, differs_sequence}
-use borrow.Author.Rules.{rules}
 use Rattle.ranges.proofs.owed.FirstNak.differs.Goals as goal
 
 pub returns-then-source-its_source : goal.returns-then-source-its_source

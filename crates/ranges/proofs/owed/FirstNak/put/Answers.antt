@@ -1,6 +1,5 @@
 -- `ranges::owed::FirstNak::put` meets its contract: each number is stored in its place.
 use Rattle.ranges.proofs.Owing.{put_none, put_some}
-use borrow.Author.Rules.{rules}
 use Rattle.ranges.proofs.owed.FirstNak.put.Goals as goal
 
 pub returns-in-Nothing : goal.returns-in-Nothing

@@ -1,7 +1,6 @@
 -- `ranges::side::Side::passed` meets its contract: at the end of its pair a side takes the next one.
 use borrow.Author.Tests.{eq-eqb}
 use Rattle.ranges.proofs.Sides.{passed_not}
-use borrow.Author.Rules.{rules}
 use Rattle.ranges.proofs.side.Side.passed.Goals as goal
 
 pub returns-then-self-at : goal.returns-then-self-at

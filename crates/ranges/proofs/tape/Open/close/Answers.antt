@@ -3,7 +3,6 @@ use lib.ListN.{length}
 use Rattle.ranges.proofs.Laying.{close_none, close_some, closing_some, length_placed}
 use native.Mathlib.Omega.{arith}
 use mathlib.Core.Path.{ap, ◌∙◌}
-use borrow.Author.Rules.{rules}
 use Rattle.ranges.proofs.tape.Open.close.Goals as goal
 
 pub returns-then-label-eq0 : goal.returns-then-label-eq0

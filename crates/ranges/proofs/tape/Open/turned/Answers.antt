@@ -2,7 +2,6 @@
 use Rattle.ranges.proofs.Laying.{turned_same, turned_other, length_closed_into}
 use lib.ListN.{length}
 use mathlib.Core.Path.{ap, ◌∙◌}
-use borrow.Author.Rules.{rules}
 use Rattle.ranges.proofs.tape.Open.turned.Goals as goal
 
 pub returns-then-self-label : goal.returns-then-self-label
