@@ -209,7 +209,7 @@ module _ (h : PduHeader) (size : ℕ) (received : List ℕ) (start end requests 
     unfolding plan_of
     our_plan =
         record {
-          is_accepted_lem = plan_accepted;
+          is_accepted = plan_accepted;
           one_each = refl;
           rounded_up =
               λ m e. dealt_count (naks_for (length missed) most) most (length missed) start end missed
@@ -234,7 +234,7 @@ pub stored_accepted : StoredAccepted
 stored_accepted h size received start end s t p e =
     let r = take_at (pair_numbers p.requests) (drop (length (pair_numbers p.requests)) s) (2 * length p.requests) (pair_count p.requests) in
     let n = take_at (nak_numbers p.naks) (drop (length (nak_numbers p.naks)) t) (3 * length p.naks) (nak_count p.naks) in
-    rw (r, n) (planner h size received start end (length s) (length t) p e).is_accepted_lem
+    rw (r, n) (planner h size received start end (length s) (length t) p e).is_accepted
 
 -- ---- one answer
 

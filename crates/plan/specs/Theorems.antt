@@ -69,7 +69,7 @@ AcceptedWritten =
 
 -- 'its plan is always accepted, uses one request for each missing range, and has the number of ranges divided by C-08's answer, rounded up; with nothing missing there is no NAK'; and each NAK is accepted by the writer
 pub record OurPlan (h : PduHeader) (size : ℕ) (received : List ℕ) (start end : ℕ) (p : Plan) : Type 0 where
-  pub is_accepted_lem : checking_plan h size received start end (pair_numbers p.requests) (nak_numbers p.naks) ≡ accepted true
+  pub is_accepted : checking_plan h size received start end (pair_numbers p.requests) (nak_numbers p.naks) ≡ accepted true
   pub one_each : p.requests ≡ missing_ranges (twos received) start end
   pub rounded_up : (most : ℕ) → most_requests h size ≡ accepted most → length p.naks ≡ naks_for (length p.requests) most
   pub with_none : p.requests ≡ [] → p.naks ≡ []
