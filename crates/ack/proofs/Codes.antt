@@ -7,7 +7,7 @@ use mathlib.Core.List.{List, [], ◌∷◌}
 use native.Mathlib.Omega.{arith}
 use lib.Dec.{eqb}
 use borrow.Author.Tests.{ne_eqb, eqb-true, not-false}
-use Rattle.fields.specs.Choice.{if◌then◌else◌}
+use Rattle.std.specs.Prelude.{if◌then◌else◌}
 use Rattle.fields.specs.Answer.{accepted, told, all_of}
 use Rattle.fields.proofs.Judging.{Passed, judged_passed, passed_on, refused_on, told_is_refused}
 use Rattle.header.specs.declared.flags.Direction.TheVariants.{TowardsReceiver, TowardsSender}

@@ -1,6 +1,5 @@
 -- The data of an ACK (CCSDS 727.0-B-5, 5.2.4): directive code 6; acknowledged directive code in the upper four bits of a byte, subtype in the lower; condition code in the upper four bits of a byte, two spare bits, transaction status in the lowest two.
-use Rattle.std.specs.Prelude.{ℕ, ◌/◌, ◌%◌, Bool, ◌||◌, not, List, [], ◌∷◌, eqb, get_or}
-use Rattle.fields.specs.Choice.{if◌then◌else◌}
+use Rattle.std.specs.Prelude.{ℕ, ◌/◌, ◌%◌, Bool, ◌||◌, not, List, [], ◌∷◌, eqb, get_or, if◌then◌else◌}
 use Rattle.fields.specs.Answer.{Test, when}
 use Rattle.header.specs.declared.PduHeader.{PduHeader}
 use Rattle.header.specs.declared.flags.Direction.{Direction}

@@ -25,7 +25,7 @@ use Rattle.header.proofs.Verifying.{pdu_sum, end_sum}
 use Rattle.header.proofs.Codes.{known_range}
 use Rattle.header.proofs.PdusBack.{reads_content}
 use Rattle.eof.specs.declared.Eof.{Eof}
-use Rattle.eof.specs.Fault.{not_aFault, fault_of, fault_bytes}
+use Rattle.eof.specs.Fault.{not_a_fault, fault_of, fault_bytes}
 use Rattle.eof.specs.Eof.{condition_in, after_size, eof_in}
 use Rattle.eof.specs.Reading.{read_tests, reading_eof}
 use Rattle.eof.specs.Writing.{eof_data, eof_size, eof_length, filled, own_tests}
@@ -110,7 +110,7 @@ module _ (e : Eof) (small : e.file_checksum < 2 ^ 32) (tests : Passed (own_tests
         let w : size_width k.file ≡ W = ap size_width pf in
         let l : header_length k + (6 + size_width k.file) ≤ data_end k = omega (arith, size_of e) in
         let condition = ap (λ (c : ℕ). (reserved_condition c).holds) condition_back ∙ tests.0 in
-        let fault = ap (λ (v : List ℕ). (not_aFault v).holds) behind_back ∙ fault_good e.fault (good e tests).fault_passed in
+        let fault = ap (λ (v : List ℕ). (not_a_fault v).holds) behind_back ∙ fault_good e.fault (good e tests).fault_passed in
         (le-ltb _ _ l, (condition, (fault, tt)))
 
   pub reads_back : (k : PduHeader) (t : List ℕ) → k ≡ filled e → Passed (directive_tests k) → run reading_eof (pdu_over k (eof_data e) ++ t) ≡ accepted (under k e)

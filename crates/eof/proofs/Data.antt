@@ -25,7 +25,7 @@ use Rattle.header.proofs.Conditions.{condition_small}
 use Rattle.header.proofs.Directives.{OwnRead, refused_own, read_own}
 use Rattle.eof.specs.declared.Eof.{Eof}
 use Rattle.eof.specs.declared.fault.FaultLocation.{FaultLocation}
-use Rattle.eof.specs.Fault.{not_aFault, fault_of, locating, fault_bytes, fault_length, fault_tests}
+use Rattle.eof.specs.Fault.{not_a_fault, fault_of, locating, fault_bytes, fault_length, fault_tests}
 use Rattle.eof.specs.Eof.{condition_in, after_size, eof_in}
 use Rattle.eof.specs.Reading.{read_tests, reading_eof}
 use Rattle.eof.specs.Writing.{eof_data, eof_size, eof_length, own_tests}
@@ -45,7 +45,7 @@ module _ (h : PduHeader) (c : List ℕ) (stop a w : ℕ) (pe : stop ≡ data_end
   condition = reserved_condition (condition_in c) ∷ []
 
   abbrev behind : List Test
-  behind = not_aFault (after_size h.file c) ∷ []
+  behind = not_a_fault (after_size h.file c) ∷ []
 
   abbrev answer : Answer Eof
   answer = first_of (read_tests h c) (eof_in h c)

@@ -29,7 +29,7 @@ use Rattle.tlv.proofs.RoundTrip.{only_reads_back, number_reads_back}
 use Rattle.eof.specs.declared.fault.EntityIdTlv.{EntityIdTlv}
 use Rattle.eof.specs.declared.fault.FaultLocation.{FaultLocation}
 use Rattle.eof.specs.declared.fault.FaultLocation.TheVariants.{At, Nowhere}
-use Rattle.eof.specs.Fault.{width_of, field_width, not_aFault, fault_of, locating, fault_bytes, fault_length, fault_tests}
+use Rattle.eof.specs.Fault.{width_of, field_width, not_a_fault, fault_of, locating, fault_bytes, fault_length, fault_tests}
 
 -- ---- the width of the one field
 
@@ -126,14 +126,14 @@ module _ (t : EntityIdTlv) (good : Passed (fault_tests (At t))) where
   some_bytes : length Y ≡ 0 → ⊥
   some_bytes z = omega (arith, field_length Tlv 6 X)
 
-  at_good : (not_aFault Y).holds ≡ false
+  at_good : (not_a_fault Y).holds ≡ false
   at_good = rw (ne_eqb _ _ some_bytes, width_back, (sound_id t.width t.id good).is_width_lem)
 
   at_back : fault_of Y ≡ At t
   unfolding fault_of
   at_back = rw (ne_eqb _ _ some_bytes, width_back, number_reads_back Tlv 6 t.width t.id.0 (sound_id t.width t.id good).fits)
 
-pub fault_good : (f : FaultLocation) → Passed (fault_tests f) → (not_aFault (fault_bytes f)).holds ≡ false
+pub fault_good : (f : FaultLocation) → Passed (fault_tests f) → (not_a_fault (fault_bytes f)).holds ≡ false
 fault_good (At t) good = at_good t good
 fault_good Nowhere good = refl
 

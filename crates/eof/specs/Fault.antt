@@ -1,6 +1,5 @@
 -- The fault location of an EOF (CCSDS 727.0-B-5, 5.2.2): nothing, or one entity identifier field: type 6, a length, that many bytes of identifier.
-use Rattle.std.specs.Prelude.{ℕ, ◌+◌, ◌-◌, ◌||◌, not, List, [], ◌∷◌, eqb, length}
-use Rattle.fields.specs.Choice.{if◌then◌else◌}
+use Rattle.std.specs.Prelude.{ℕ, ◌+◌, ◌-◌, ◌||◌, not, List, [], ◌∷◌, eqb, length, if◌then◌else◌}
 use Rattle.fields.specs.Width.{is_width}
 use Rattle.fields.specs.BigEndian.{be_bytes, number_at}
 use Rattle.fields.specs.Answer.{Answer, accepted, told, Test, when, first_of}
@@ -35,15 +34,15 @@ unfoldable pub field_width : List ℕ → ℕ
 field_width v = width_of (only_field Tlv entity_id_type v 0)
 
 -- 28: 'bytes after the file size, up to E, that are not one entity identifier field of an allowed width'
-abbrev pub not_aFault : List ℕ → Test
-not_aFault v = when (not (eqb (length v) 0 || is_width (field_width v))) (28 ∷ [])
+abbrev pub not_a_fault : List ℕ → Test
+not_a_fault v = when (not (eqb (length v) 0 || is_width (field_width v))) (28 ∷ [])
 
 -- the fault location that bytes are
 unfoldable pub fault_of : List ℕ → FaultLocation
 fault_of v = if eqb (length v) 0 then Nowhere else At (record { width = field_width v; id = record { 0 = number_at v (head_bytes Tlv) (field_width v) } })
 
 unfoldable pub locating : List ℕ → Answer FaultLocation
-locating v = first_of (not_aFault v ∷ []) (fault_of v)
+locating v = first_of (not_a_fault v ∷ []) (fault_of v)
 
 -- ---- writing
 

@@ -10,7 +10,7 @@ use Rattle.header.specs.Condition.{reserved_condition}
 use Rattle.eof.specs.declared.Eof.{Eof}
 use Rattle.eof.specs.declared.EofResult.{EofResult}
 use Rattle.eof.specs.declared.EofResult.TheVariants.{Eof as Read, Refused}
-use Rattle.eof.specs.Fault.{not_aFault}
+use Rattle.eof.specs.Fault.{not_a_fault}
 use Rattle.eof.specs.Eof.{eof_code, least_size, condition_in, after_size, eof_in}
 
 abbrev pub eof_answer : EofResult → Answer Eof
@@ -22,7 +22,7 @@ unfoldable pub read_tests : PduHeader → List ℕ → List Test
 read_tests h c =
     data_short (data_end h) (header_length h + least_size h.file)
     ∷ reserved_condition (condition_in c)
-    ∷ not_aFault (after_size h.file c)
+    ∷ not_a_fault (after_size h.file c)
     ∷ []
 
 unfoldable pub reading_eof : Staged Eof

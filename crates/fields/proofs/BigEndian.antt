@@ -13,7 +13,7 @@ use lib.Dec.{leb}
 use lib.ListN.{length, take, drop, set, get_or, length-append, length-take, length-drop, length-set, take-append-drop}
 use lib.Seq.{drop-cons, append_snoc, take-set-le, drop-set-lt, get_or-set_same, take_at, drop_at, take-take, drop-drop, get_or-drop, sets, sets-eq, length-sets}
 use borrow.Author.Tests.{le-leb, lt-leb, leb-true}
-use Rattle.fields.specs.Choice.{if◌then◌else◌}
+use Rattle.std.specs.Prelude.{if◌then◌else◌}
 use Rattle.fields.specs.Width.{fits_width}
 use Rattle.fields.proofs.Width.{lt_fits}
 use Rattle.fields.specs.BigEndian.{Bytes, be_from, be_value, be_bytes, number_at, overwritten, lies_in, be_at, be_put}

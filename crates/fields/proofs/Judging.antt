@@ -10,7 +10,7 @@ use lib.Dec.{eqb}
 use lib.ListN.{length, get_or, drop}
 use lib.Seq.{sets, sets-eq}
 use borrow.Author.Tests.{eqb-true}
-use Rattle.fields.specs.Choice.{if◌then◌else◌}
+use Rattle.std.specs.Prelude.{if◌then◌else◌}
 use Rattle.fields.specs.Answer.{Answer, accepted, short, refused, told, and_then, Test, first_of, leaves, all_of}
 
 -- every test is false

@@ -12,7 +12,7 @@ use lib.ListN.{length, take, length-append}
 use lib.Seq.{take-append-le, take_all}
 use lib.Dec.{ltb}
 use borrow.Author.Tests.{ltb-true, ltb-false, lt-ltb, le-ltb}
-use Rattle.fields.specs.Choice.{if◌then◌else◌}
+use Rattle.std.specs.Prelude.{if◌then◌else◌}
 use Rattle.fields.specs.Answer.{Answer, accepted, short, refused, told, and_then, Test, first_of}
 use Rattle.fields.specs.Staged.{Staged, accept, refuse_if, need, run, ◌>>=◌, ◌>>◌, tests}
 use Rattle.fields.proofs.Judging.{Passed, told_no, told_as, told_short, refused_then, accepted_then, went}

@@ -9,7 +9,7 @@ use lib.Dec.{ltb}
 use lib.ListN.{length, get_or, take, length-append}
 use lib.Seq.{take-append-le}
 use borrow.Author.Tests.{ltb-false, le-ltb, eq-eqb, ne_eqb}
-use Rattle.fields.specs.Choice.{if◌then◌else◌}
+use Rattle.std.specs.Prelude.{if◌then◌else◌}
 use Rattle.fields.specs.Answer.{Answer, accepted, short, refused, told}
 use Rattle.fields.specs.Staged.{Staged, accept, refuse_if, need, run, ◌>>=◌}
 use Rattle.fields.specs.Demand3.{AtMost}

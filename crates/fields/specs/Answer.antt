@@ -1,6 +1,5 @@
 -- Answers in document 01's terms: what is accepted, or a refusal's number and values. 'The first that holds is the answer.'
-use Rattle.std.specs.Prelude.{ℕ, Bool, List, [], ◌∷◌, ◌++◌, eqb, length, get_or, drop}
-use Rattle.fields.specs.Choice.{if◌then◌else◌}
+use Rattle.std.specs.Prelude.{ℕ, Bool, List, [], ◌∷◌, ◌++◌, eqb, length, get_or, drop, if◌then◌else◌}
 
 -- `short` is refusal 1, with the length and the needed length: it stands by itself because demand 3 speaks of it
 pub data Answer (A : Type 0) : Type 0 where

@@ -1,6 +1,5 @@
 -- Numbers as bytes, the most significant first, once over the width: the number that bytes are, the bytes of a number, and a number read from and written to a place.
-use Rattle.std.specs.Prelude.{ℕ, zero, suc, ◌+◌, ◌*◌, ◌/◌, ◌%◌, ◌<◌, Bool, ◌&&◌, List, [], ◌∷◌, ◌++◌, leb, length, get_or, take, drop}
-use Rattle.fields.specs.Choice.{if◌then◌else◌}
+use Rattle.std.specs.Prelude.{ℕ, zero, suc, ◌+◌, ◌*◌, ◌/◌, ◌%◌, ◌<◌, Bool, ◌&&◌, List, [], ◌∷◌, ◌++◌, leb, length, get_or, take, drop, if◌then◌else◌}
 use Rattle.fields.specs.Width.{fits_width}
 
 -- each element is a byte

@@ -1,6 +1,5 @@
 -- The definitions that the promises cite, from the standard and document 01; read them in this order.
 pub mod Checksum
-pub mod Choice
 pub mod Width
 pub mod BigEndian
 pub mod Refusal

@@ -1,6 +1,5 @@
 -- Readers in stages: a stage needs a number of bytes and sees those alone, tests, or accepts. A reader's definition is its stages, in the order of document 01's sentence.
-use Rattle.std.specs.Prelude.{ℕ, Bool, List, [], ◌∷◌, ltb, length, take}
-use Rattle.fields.specs.Choice.{if◌then◌else◌}
+use Rattle.std.specs.Prelude.{ℕ, Bool, List, [], ◌∷◌, ltb, length, take, if◌then◌else◌}
 use Rattle.fields.specs.Answer.{Answer, accepted, short, refused, Test}
 
 infixl 20 ◌>>=◌

@@ -10,7 +10,7 @@ use lib.Dec.{ltb, lit<}
 use lib.ListN.{length, get_or, take, drop}
 use lib.Seq.{get_or-take}
 use borrow.Author.Tests.{not-false, le-ltb}
-use Rattle.fields.specs.Choice.{if◌then◌else◌}
+use Rattle.std.specs.Prelude.{if◌then◌else◌}
 use Rattle.fields.specs.Width.{is_width}
 use Rattle.fields.specs.BigEndian.{Bytes}
 use Rattle.fields.specs.Answer.{Answer, accepted, refused, first_of, leaves}

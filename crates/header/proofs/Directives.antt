@@ -21,7 +21,7 @@ use Rattle.header.specs.Header.{header_length, pdu_length, data_end}
 use Rattle.header.specs.Reading.{reading_header}
 use Rattle.header.specs.Verifying.{pdu_bytes}
 use Rattle.header.specs.Code.{kind_of}
-use Rattle.header.specs.Directive.{data_short, not_aDirective, least_length, PduRead, content_of, reading_directive, reading_own}
+use Rattle.header.specs.Directive.{data_short, not_a_directive, least_length, PduRead, content_of, reading_directive, reading_own}
 use Rattle.header.specs.Within.{verifying_read, behind_nine, directive_part, directive_bytes, verifying_directive, reading_up_to_code, code_part, own_part}
 use Rattle.header.proofs.Codes.{unknown_says, known_says, own_says}
 use Rattle.header.proofs.Reading.{header_two}
@@ -36,10 +36,10 @@ pub data_reaches : (stop needed : ℕ) → needed ≤ stop → accepted tt ≡ a
 data_reaches stop needed l = rw (le-ltb _ _ l)
 
 module _ (h : PduHeader) where
-  pub file_data : h.kind ≡ FileData → told (21 ∷ []) ≡ all_of (not_aDirective h ∷ [])
+  pub file_data : h.kind ≡ FileData → told (21 ∷ []) ≡ all_of (not_a_directive h ∷ [])
   file_data k = rw (told_is_refused 21 _ refl, ap pdu_type_bit k)
 
-  pub a_directive : h.kind ≡ FileDirective → accepted tt ≡ all_of (not_aDirective h ∷ [])
+  pub a_directive : h.kind ≡ FileDirective → accepted tt ≡ all_of (not_a_directive h ∷ [])
   a_directive k = rw (ap pdu_type_bit k)
 
 -- ---- reading: what is not verified is refused, and behind what is verified the tests decide
@@ -64,7 +64,7 @@ module _ (h : PduHeader) (stop a : ℕ) (pa : a ≡ header_length h) where
   least = data_short stop least_length ∷ []
 
   abbrev directive : List Test
-  directive = not_aDirective h ∷ []
+  directive = not_a_directive h ∷ []
 
   abbrev code : List Test
   code = data_short stop (a + 1) ∷ []

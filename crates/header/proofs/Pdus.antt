@@ -8,7 +8,7 @@ use native.Mathlib.Omega.{arith}
 use lib.ListN.{length, take, drop, length-append}
 use lib.Seq.{sets, sets-eq, length-sets, take_at}
 use borrow.Author.Tests.{ltb-false, le-ltb}
-use Rattle.fields.specs.Choice.{if◌then◌else◌}
+use Rattle.std.specs.Prelude.{if◌then◌else◌}
 use Rattle.fields.specs.Answer.{Answer, accepted, short, refused, told, and_then, Test, first_of, leaves, all_of}
 use Rattle.fields.proofs.BigEndian.{then_sets}
 use Rattle.fields.proofs.Judging.{Passed, passed, passed_first, passed_last, passed_on, passed_after, all_passed, refused_on, refused_same, refused_then, accepted_then, told_either, told_on, told_leaves, accepted_leaves, sets_leaves, went, then_tests}
@@ -22,7 +22,7 @@ use Rattle.header.specs.Header.{header_length, header_bytes, pdu_length, data_en
 use Rattle.header.specs.Judging.{record_tests, judging, Sound}
 use Rattle.header.specs.Writing.{no_room}
 use Rattle.header.specs.Verifying.{checksum_bytes, crc_added}
-use Rattle.header.specs.Directive.{not_aDirective}
+use Rattle.header.specs.Directive.{not_a_directive}
 use Rattle.header.specs.Pdu.{directive_tests, judging_directive, pdu_over, handed_back, writing_pdu, pdu_memory, with_data, beginning, begun_memory, sealed_memory}
 use Rattle.header.proofs.FlagBits.{pdu_type_back}
 use Rattle.header.proofs.Judging.{sound, with_tests, refused_first}
@@ -33,12 +33,12 @@ use Rattle.header.proofs.Verifying.{pdu_sum, end_sum, added_sets, checksum_lengt
 
 pub refused_record : (h : PduHeader) (ns : List ℕ) → told ns ≡ judging h → told ns ≡ judging_directive h
 unfolding judging_directive directive_tests
-refused_record h ns e = refused_first h (not_aDirective h ∷ []) tt ns e
+refused_record h ns e = refused_first h (not_a_directive h ∷ []) tt ns e
 
 -- behind a record that passed its type decides
-pub type_decides : (h : PduHeader) → Passed (record_tests h) → all_of (not_aDirective h ∷ []) ≡ judging_directive h
+pub type_decides : (h : PduHeader) → Passed (record_tests h) → all_of (not_a_directive h ∷ []) ≡ judging_directive h
 unfolding judging_directive directive_tests
-type_decides h good = sym (passed_on (record_tests h) (not_aDirective h ∷ []) tt good)
+type_decides h good = sym (passed_on (record_tests h) (not_a_directive h ∷ []) tt good)
 
 -- what the judgement refuses, every judgement that begins with it refuses alike, and what it accepts passed every test
 pub refused_directive : {A : Type 0} (h : PduHeader) (us : List Test) (a : A) (ns : List ℕ) → told ns ≡ judging_directive h
@@ -53,17 +53,17 @@ passed_directive h e = (passed (directive_tests h) tt tt e).0
 -- so it is a record that passed, of PDU type 0
 pub directive_good : (h : PduHeader) → Passed (directive_tests h) → Passed (record_tests h)
 unfolding directive_tests
-directive_good h p = passed_first (record_tests h) (not_aDirective h ∷ []) p
+directive_good h p = passed_first (record_tests h) (not_a_directive h ∷ []) p
 
 pub directive_kind : (h : PduHeader) → Passed (directive_tests h) → h.kind ≡ FileDirective
 unfolding directive_tests
-directive_kind h p = sym (pdu_type_back h.kind) ∙ ap pdu_type_if (passed_last (record_tests h) (not_aDirective h ∷ []) p).0
+directive_kind h p = sym (pdu_type_back h.kind) ∙ ap pdu_type_if (passed_last (record_tests h) (not_a_directive h ∷ []) p).0
 
 -- direction, file flag and length are not judged
 pub with_directive : (d : Direction) (f : LargeFileFlag) (l : ℕ) (h : PduHeader)
     → directive_tests (with_length l (with_file_flag f (with_direction d h))) ≡ directive_tests h
 unfolding directive_tests
-with_directive d f l h = ap (λ (ts : List Test). ts ++ (not_aDirective h ∷ [])) (with_tests d f l h)
+with_directive d f l h = ap (λ (ts : List Test). ts ++ (not_a_directive h ∷ [])) (with_tests d f l h)
 
 -- ---- the exits of the judgement
 

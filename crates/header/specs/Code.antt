@@ -1,6 +1,5 @@
 -- Directive codes (CCSDS 727.0-B-5, 5.2, table 5-4; document 01): which are known, and what a code says to a reader of one directive.
-use Rattle.std.specs.Prelude.{ℕ, Bool, ◌&&◌, ◌||◌, not, [], ◌∷◌, eqb, leb}
-use Rattle.fields.specs.Choice.{if◌then◌else◌}
+use Rattle.std.specs.Prelude.{ℕ, Bool, ◌&&◌, ◌||◌, not, [], ◌∷◌, eqb, leb, if◌then◌else◌}
 use Rattle.fields.specs.Answer.{Test, when}
 use Rattle.header.specs.declared.code.DirectiveKind.{DirectiveKind}
 use Rattle.header.specs.declared.code.DirectiveKind.TheVariants.{Own, Known, Unknown}

@@ -15,8 +15,8 @@ abbrev pub data_short : ℕ → ℕ → Test
 data_short stop needed = when (ltb stop needed) (6 ∷ stop ∷ needed ∷ [])
 
 -- 21: not a directive (C-05)
-abbrev pub not_aDirective : PduHeader → Test
-not_aDirective h = when (eqb (pdu_type_bit h.kind) 1) (21 ∷ [])
+abbrev pub not_a_directive : PduHeader → Test
+not_a_directive h = when (eqb (pdu_type_bit h.kind) 1) (21 ∷ [])
 
 -- the fewest bytes, header and all, that the Rust asks of the buffer and of the declared data
 abbrev pub least_length : ℕ
@@ -43,7 +43,7 @@ reading_directive own = do
   p ← pdu_bytes h
   bytes least_length
   test (data_short (data_end h) least_length)
-  test (not_aDirective h)
+  test (not_a_directive h)
   test (data_short (data_end h) (header_length h + 1))
   test (unknown_directive (code_in h p))
   test (wrong_directive own (code_in h p))

@@ -12,7 +12,7 @@ use Rattle.header.specs.Header.{header_bytes, pdu_length, data_end, with_length}
 use Rattle.header.specs.Judging.{record_tests}
 use Rattle.header.specs.Writing.{no_room}
 use Rattle.header.specs.Verifying.{checksum_bytes, crc_added}
-use Rattle.header.specs.Directive.{not_aDirective}
+use Rattle.header.specs.Directive.{not_a_directive}
 
 -- the header's bytes, the data, and with the flag the checksum of both
 unfoldable pub pdu_over : PduHeader → List ℕ → List ℕ
@@ -22,7 +22,7 @@ pdu_over h content = (header_bytes h ++ content) ++ checksum_bytes h.crc (header
 
 -- 3, 4, 14, and 'after 14' 21 (C-05)
 unfoldable pub directive_tests : PduHeader → List Test
-directive_tests h = record_tests h ++ (not_aDirective h ∷ [])
+directive_tests h = record_tests h ++ (not_a_directive h ∷ [])
 
 -- whether a directive PDU can have the record
 unfoldable pub judging_directive : PduHeader → Answer (Unit {0})

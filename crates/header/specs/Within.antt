@@ -12,7 +12,7 @@ use Rattle.header.specs.Header.{header_length, data_end, first_byte}
 use Rattle.header.specs.Reading.{header_length_in, header_in, reading_header}
 use Rattle.header.specs.Verifying.{pdu_bytes}
 use Rattle.header.specs.Code.{unknown_directive, wrong_directive}
-use Rattle.header.specs.Directive.{data_short, not_aDirective, least_length, code_in, content_of, PduRead}
+use Rattle.header.specs.Directive.{data_short, not_a_directive, least_length, code_in, content_of, PduRead}
 
 -- the header that is read from the bytes s has so many bytes, or is refused like this
 abbrev pub Measured : LengthResult → List ℕ → Type 0
@@ -31,14 +31,14 @@ verifying_read h = pdu_bytes h >> accept (data_end h)
 
 -- E against 9, 21, and E against h + 1
 unfoldable pub behind_nine : PduHeader → ℕ → List Test
-behind_nine h stop = data_short stop least_length ∷ not_aDirective h ∷ data_short stop (header_length h + 1) ∷ []
+behind_nine h stop = data_short stop least_length ∷ not_a_directive h ∷ data_short stop (header_length h + 1) ∷ []
 
 -- in the PDU p: the tests against 9, 21, and E against h + 1
 unfoldable pub directive_part : PduHeader → List ℕ → Staged (List ℕ)
 directive_part h p = do
   bytes least_length
   test (data_short (data_end h) least_length)
-  test (not_aDirective h)
+  test (not_a_directive h)
   test (data_short (data_end h) (header_length h + 1))
   accept p
 

@@ -3,7 +3,7 @@ ghost use Rattle.std.specs.Prelude.{◌≡◌, [], ◌∷◌};
 ghost use Rattle.fields.specs.Answer.{first_of, all_of};
 ghost use Rattle.fields.specs.Staged.{run};
 ghost use Rattle.header.specs.Answers.{length_answer, judged_answer, directive_answer};
-ghost use Rattle.header.specs.Directive.{data_short, not_aDirective, reading_own};
+ghost use Rattle.header.specs.Directive.{data_short, not_a_directive, reading_own};
 ghost use Rattle.header.specs.Within.{behind_nine, verifying_directive, reading_up_to_code};
 
 use crate::code::DirectiveKind;
@@ -41,7 +41,7 @@ pub fn judge_data(stop: usize, expected: usize) -> Judged
 impl PduHeader {
     // 21: file data has no directive.
     pub(crate) fn judge_type(self) -> Judged
-        ensures { judged_answer result ≡ all_of (not_aDirective self ∷ []) }
+        ensures { judged_answer result ≡ all_of (not_a_directive self ∷ []) }
     {
         let kind = self.kind;
         match kind {

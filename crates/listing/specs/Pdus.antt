@@ -1,6 +1,5 @@
 -- Whether a PDU is accepted by the reader of its own directive, for NAK, EOF, ACK and Metadata.
-use Rattle.std.specs.Prelude.{ℕ, Bool, true, false, List, eqb, get_or}
-use Rattle.fields.specs.Choice.{if◌then◌else◌}
+use Rattle.std.specs.Prelude.{ℕ, Bool, true, false, List, eqb, get_or, if◌then◌else◌}
 use Rattle.fields.specs.Answer.{Answer, accepted, short, refused}
 use Rattle.fields.specs.Staged.{run}
 use Rattle.nak.specs.declared.Nak.{Nak}

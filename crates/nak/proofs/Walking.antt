@@ -9,7 +9,7 @@ use native.Mathlib.Nat.{div-add-mod', mod-lt, not-suc-le-zero}
 use lib.Dec.{lit<, leb}
 use lib.ListN.{length, take, drop}
 use borrow.Author.Tests.{le-leb, lt-leb, leb-false, eq-eqb, ne_eqb}
-use Rattle.fields.specs.Choice.{if◌then◌else◌}
+use Rattle.std.specs.Prelude.{if◌then◌else◌}
 use Rattle.fields.specs.BigEndian.{number_at, be_at}
 use Rattle.fields.proofs.Parts.{part_read}
 use Rattle.header.specs.declared.flags.LargeFileFlag.{LargeFileFlag}

@@ -145,3 +145,13 @@ module _ (file : LargeFileFlag) (h : PduHeader) (start end : ℕ) (numbers s : L
           ∙ ap₂ (λ (l : List ℕ) (i : ℕ). sets l i N) (q₁ ∙ ap (λ (f : LargeFileFlag). sets b a (scope_bytes f start end)) flag) (sym at)
           ∙ sym (sets_append S N b a) in
           write_done j (towards_sender file h) pj T d o own k pk s p b e q content size a refl b₂ b₃ p₂ e₃
+
+-- with no list nothing stands between the scope and the checksum
+pub none_written : (file : LargeFileFlag) (h : PduHeader) (start end : ℕ) (s : List ℕ) (j : PduHeader) → j ≡ towards_sender file h → (o : Answer ℕ)
+    → o ≡ first_of (own_tests file start end 0) (data_length file h.crc (0 / 2))
+    → (k : PduHeader) → k ≡ with_data o j → (p : ℕ) (b : List ℕ) → accepted p ≡ beginning k o (length s) → b ≡ begun_memory k o s
+    → (b₁ b₂ : List ℕ) → b₁ ≡ sets b (header_length k) (scope_bytes k.file start end) → b₂ ≡ sealed_memory k b₁
+    → (accepted (record { header = k; length = p }) ≡ writing_nak file h start end 0 (length s)) × (b₂ ≡ nak_memory file h start end [] s)
+unfolding numbers_bytes
+none_written file h start end s j pj o own k pk p b e q b₁ b₂ q₁ e₂ =
+    nak_written file h start end [] s j pj o own k pk p b e q b₁ q₁ (area_start k) b₁ b₂ refl refl e₂

@@ -1,6 +1,5 @@
 -- The request area of a NAK: its pairs, one after the other, and the cursor that walks it.
-use Rattle.std.specs.Prelude.{ℕ, zero, suc, ◌+◌, ◌-◌, ◌*◌, ◌/◌, ◌&&◌, List, [], ◌∷◌, leb, eqb, length, take, drop}
-use Rattle.fields.specs.Choice.{if◌then◌else◌}
+use Rattle.std.specs.Prelude.{ℕ, zero, suc, ◌+◌, ◌-◌, ◌*◌, ◌/◌, ◌&&◌, List, [], ◌∷◌, leb, eqb, length, take, drop, if◌then◌else◌}
 use Rattle.fields.specs.BigEndian.{number_at}
 use Rattle.header.specs.declared.flags.LargeFileFlag.{LargeFileFlag}
 use Rattle.nak.specs.declared.Nak.{Nak}

@@ -2,10 +2,10 @@
 // is refused.
 #![tactic(auto)]
 
-// The most bytes of a PDU: a header of 28, and 65,535 of data.
 // The descriptor of standard input.
 const STDIN_FILENO: i32 = 0;
 
+// The most bytes of a PDU: a header of 28, and 65,535 of data.
 const MOST_PDU: usize = 65563;
 
 fn main() {

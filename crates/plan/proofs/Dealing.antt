@@ -11,7 +11,7 @@ use lib.Dec.{leb, eqb}
 use lib.ListN.{length, take, drop, length-drop}
 use lib.Seq.{take-length}
 use borrow.Author.Tests.{lt-ltb, le-ltb, le-leb, eq-eqb}
-use Rattle.fields.specs.Choice.{if◌then◌else◌}
+use Rattle.std.specs.Prelude.{if◌then◌else◌}
 use Rattle.ranges.specs.Pairs.{Rising, ApartBehind, Apart}
 use Rattle.ranges.proofs.Tests.{eq?, lt?}
 use Rattle.plan.specs.Plans.{PlannedNak, each_fits, all_within, each_within, join_from, scopes_join}

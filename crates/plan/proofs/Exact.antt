@@ -9,7 +9,7 @@ use native.Mathlib.Omega.{arith}
 use lib.Dec.{leb, ltb, eqb}
 use lib.ListN.{get_or}
 use borrow.Author.Tests.{lt-ltb, le-ltb, le-leb, lt-leb, eq-eqb, eqb-true}
-use Rattle.fields.specs.Choice.{if◌then◌else◌}
+use Rattle.std.specs.Prelude.{if◌then◌else◌}
 use Rattle.header.proofs.Comparing.{both_true}
 use Rattle.ranges.specs.Runs.{runs}
 use Rattle.ranges.specs.Pairs.{twos, asks, ApartBehind, Apart, spans, in_or_not}

@@ -10,7 +10,7 @@ use lib.Dec.{leb}
 use lib.ListN.{length, get_or, set, drop}
 use lib.Seq.{sets}
 use borrow.Author.Tests.{lt-ltb, le-ltb}
-use Rattle.fields.specs.Choice.{if◌then◌else◌}
+use Rattle.std.specs.Prelude.{if◌then◌else◌}
 use Rattle.ranges.specs.Pairs.{twos}
 use Rattle.ranges.proofs.Tests.{lt?}
 use Rattle.plan.specs.Plans.{PlannedNak, pair_numbers, nak_numbers}

@@ -1,6 +1,5 @@
 -- How the code finds the missing ranges: as the gaps between received ranges.
-use Rattle.std.specs.Prelude.{ℕ, Bool, true, false, ◌&&◌, List, [], ◌∷◌, leb, ltb, eqb}
-use Rattle.fields.specs.Choice.{if◌then◌else◌}
+use Rattle.std.specs.Prelude.{ℕ, Bool, true, false, ◌&&◌, List, [], ◌∷◌, leb, ltb, eqb, if◌then◌else◌}
 
 -- a stretch in front of ranges, unless it is empty
 abbrev pub front : ℕ → ℕ → List (ℕ × ℕ) → List (ℕ × ℕ)

@@ -1,7 +1,6 @@
 // The gaps between received ranges, which are the missing ranges of a scope: a cursor by value.
-ghost use Rattle.std.specs.Prelude.{◌≡◌, [], ◌∷◌, ◌+◌, ◌-◌, ◌*◌, ◌/◌, ◌≤◌, ◌<◌, leb, length, drop};
+ghost use Rattle.std.specs.Prelude.{◌≡◌, [], ◌∷◌, ◌+◌, ◌-◌, ◌*◌, ◌/◌, ◌≤◌, ◌<◌, leb, length, drop, if◌then◌else◌};
 ghost use Rattle.std.proofs.lemmas.List.Edits.{sets};
-ghost use Rattle.fields.specs.Choice.{if◌then◌else◌};
 ghost use Rattle.ranges.specs.Pairs.{twos};
 ghost use Rattle.plan.specs.Plans.{pair_numbers};
 ghost use Rattle.plan.specs.Gaps.{gaps, gap_then, same_pairs};

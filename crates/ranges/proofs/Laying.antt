@@ -11,7 +11,7 @@ use lib.Dec.{ltb, eqb, lit<}
 use lib.ListN.{length, set, drop, length-append}
 use lib.Seq.{sets, length-sets, sets-eq}
 use borrow.Author.Tests.{lt-ltb, le-ltb, eq-eqb, ne_eqb}
-use Rattle.fields.specs.Choice.{if◌then◌else◌}
+use Rattle.std.specs.Prelude.{if◌then◌else◌}
 use Rattle.fields.proofs.BigEndian.{sets_append}
 use Rattle.ranges.specs.declared.tape.Open.{Open}
 use Rattle.ranges.specs.Runs.{Run, range, in_front, ApartFrom}

@@ -10,7 +10,7 @@ use lib.Dec.{leb, ltb, eqb}
 use lib.ListN.{length, get_or, take, drop, replicate, length-append, length-replicate, replicate-append-replicate, drop_of_length-le}
 use lib.Seq.{sets-eq, drop-cons, get_or-take, take_at, set_at, get_or-append-add, length-take-le}
 use borrow.Author.Tests.{le-leb, lt-leb, lt-ltb, le-ltb, leb-true, ltb-true}
-use Rattle.fields.specs.Choice.{if◌then◌else◌}
+use Rattle.std.specs.Prelude.{if◌then◌else◌}
 use Rattle.ranges.specs.declared.owed.FirstNak.{FirstNak}
 use Rattle.ranges.specs.declared.owed.FirstNak.TheVariants.{Nak as First, Nothing}
 use Rattle.ranges.specs.Runs.{Run, range}

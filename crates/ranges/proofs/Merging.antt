@@ -9,7 +9,7 @@ use native.Mathlib.Omega.{arith}
 use lib.Dec.{leb}
 use lib.ListN.{length}
 use borrow.Author.Tests.{le-leb, lt-leb}
-use Rattle.fields.specs.Choice.{if◌then◌else◌}
+use Rattle.std.specs.Prelude.{if◌then◌else◌}
 use Rattle.ranges.specs.declared.merge.Rule.{Rule}
 use Rattle.ranges.specs.declared.tape.Open.{Open}
 use Rattle.ranges.specs.Runs.{Run, in_front, runs}

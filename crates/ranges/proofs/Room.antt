@@ -12,7 +12,7 @@ use lib.Dec.{leb, ltb, eqb, lit≤, lit<}
 use lib.ListN.{length, get_or}
 use borrow.Author.Tests.{le-leb, lt-leb, lt-ltb, le-ltb, eq-eqb, ne_eqb, eqb-true, not-false}
 use Rattle.fields.specs.Answer.{Answer, accepted, short, refused, told, and_then}
-use Rattle.fields.specs.Choice.{if◌then◌else◌}
+use Rattle.std.specs.Prelude.{if◌then◌else◌}
 use Rattle.fields.specs.Staged.{run}
 use Rattle.fields.proofs.Judging.{went, same_accepted, told_no, told_is_refused}
 use Rattle.nak.specs.declared.Nak.{Nak}

@@ -10,7 +10,7 @@ use lib.Dec.{leb, ltb, eqb}
 use lib.ListN.{length, take, drop}
 use lib.Seq.{take_at}
 use borrow.Author.Tests.{ne_eqb}
-use Rattle.fields.specs.Choice.{if◌then◌else◌}
+use Rattle.std.specs.Prelude.{if◌then◌else◌}
 use Rattle.ranges.specs.declared.merge.Rule.TheVariants.{Either, Without}
 use Rattle.ranges.specs.Runs.{Run, range, runs, ApartFrom, label_in}
 use Rattle.ranges.specs.Pairs.{asks, Rising, twos, spans, ApartBehind, Apart, in_or_not}

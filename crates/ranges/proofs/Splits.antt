@@ -8,7 +8,7 @@ use native.Mathlib.Omega.{arith}
 use native.Mathlib.Nat.{add-zero}
 use lib.ListN.{length, drop, length-append, length-drop}
 use lib.Seq.{drop-append-le, take-append_seam}
-use Rattle.fields.specs.Choice.{if◌then◌else◌}
+use Rattle.std.specs.Prelude.{if◌then◌else◌}
 use Rattle.fields.specs.Answer.{Answer, accepted, short, refused, and_then}
 use Rattle.tlv.specs.declared.Form.TheVariants.{LongTlv}
 use Rattle.tlv.specs.declared.Field.{Field}

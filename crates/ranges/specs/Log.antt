@@ -1,6 +1,5 @@
 -- The log (document 02, C-13): 'tagged fields: one-byte tag, two-byte big-endian length, contents'. Its entries one by one, in the order of the document's refusals, and a run over them.
-use Rattle.std.specs.Prelude.{ℕ, zero, suc, ◌+◌, ◌&&◌, List, [], ◌∷◌, eqb, length, drop}
-use Rattle.fields.specs.Choice.{if◌then◌else◌}
+use Rattle.std.specs.Prelude.{ℕ, zero, suc, ◌+◌, ◌&&◌, List, [], ◌∷◌, eqb, length, drop, if◌then◌else◌}
 use Rattle.fields.specs.BigEndian.{number_at}
 use Rattle.fields.specs.Answer.{Answer, accepted, short, refused, told, and_then}
 use Rattle.fields.specs.Refusal.{paper}

@@ -1,6 +1,5 @@
 -- A state in memory that the caller lends, 516 numbers: the ranges, start and end by turns; from place 512 on how many there are, 1 once there is a first NAK, its source and its sequence number.
-use Rattle.std.specs.Prelude.{ℕ, ◌-◌, ◌*◌, Bool, true, ◌&&◌, List, [], ◌∷◌, ◌++◌, leb, ltb, eqb, length, get_or, take, replicate}
-use Rattle.fields.specs.Choice.{if◌then◌else◌}
+use Rattle.std.specs.Prelude.{ℕ, ◌-◌, ◌*◌, Bool, true, ◌&&◌, List, [], ◌∷◌, ◌++◌, leb, ltb, eqb, length, get_or, take, replicate, if◌then◌else◌}
 use Rattle.ranges.specs.declared.owed.FirstNak.{FirstNak}
 use Rattle.ranges.specs.declared.owed.FirstNak.TheVariants.{Nak as First, Nothing}
 use Rattle.ranges.specs.Pairs.{twos}

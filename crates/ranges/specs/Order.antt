@@ -1,6 +1,5 @@
 -- The pairs of a NAK: the metadata pair is kept apart, and the others must rise.
-use Rattle.std.specs.Prelude.{ℕ, ◌+◌, Bool, false, ◌&&◌, List, [], ◌∷◌, leb, ltb, eqb}
-use Rattle.fields.specs.Choice.{if◌then◌else◌}
+use Rattle.std.specs.Prelude.{ℕ, ◌+◌, Bool, false, ◌&&◌, List, [], ◌∷◌, leb, ltb, eqb, if◌then◌else◌}
 
 -- 'A first pair 0, 0 asks for metadata'
 abbrev pub metadata : List (ℕ × ℕ) → Bool

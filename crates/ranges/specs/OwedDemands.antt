@@ -1,6 +1,5 @@
 -- What is proved of the log (document 02, C-13), beside the promises of the functions.
-use Rattle.std.specs.Prelude.{ℕ, zero, suc, ◌+◌, ◌≤◌, ◌<◌, ◌≡◌, Bool, true, false, List, [], ◌∷◌, ◌++◌, ltb, length, drop, replicate}
-use Rattle.fields.specs.Choice.{if◌then◌else◌}
+use Rattle.std.specs.Prelude.{ℕ, zero, suc, ◌+◌, ◌≤◌, ◌<◌, ◌≡◌, Bool, true, false, List, [], ◌∷◌, ◌++◌, ltb, length, drop, replicate, if◌then◌else◌}
 use Rattle.fields.specs.Answer.{Answer, accepted, short, refused}
 use Rattle.tlv.specs.declared.Form.TheVariants.{LongTlv}
 use Rattle.tlv.specs.declared.walk.FirstCut.TheVariants.{Nothing}

@@ -1,6 +1,5 @@
 -- Pairs of offsets, 'read as first byte asked and first byte after', as numbers, and as ranges without their label.
-use Rattle.std.specs.Prelude.{ℕ, ◌≤◌, ◌<◌, Bool, false, ◌&&◌, ◌||◌, List, [], ◌∷◌, leb, ltb}
-use Rattle.fields.specs.Choice.{if◌then◌else◌}
+use Rattle.std.specs.Prelude.{ℕ, ◌≤◌, ◌<◌, Bool, false, ◌&&◌, ◌||◌, List, [], ◌∷◌, leb, ltb, if◌then◌else◌}
 use Rattle.ranges.specs.Runs.{Run, range}
 
 -- whether a byte lies in one of the pairs

@@ -1,6 +1,5 @@
 -- The longest ranges of bytes that have one label. Each byte has a label, a number; 0 is the label of a byte that lies in no range.
-use Rattle.std.specs.Prelude.{ℕ, zero, suc, ◌+◌, ◌≤◌, ◌<◌, ◌≡◌, ◌&&◌, List, [], ◌∷◌, leb, ltb, eqb}
-use Rattle.fields.specs.Choice.{if◌then◌else◌}
+use Rattle.std.specs.Prelude.{ℕ, zero, suc, ◌+◌, ◌≤◌, ◌<◌, ◌≡◌, ◌&&◌, List, [], ◌∷◌, leb, ltb, eqb, if◌then◌else◌}
 
 -- a range: its first byte, the first byte after it, and the label of its bytes
 pub data Run : Type 0 where

@@ -1,8 +1,7 @@
 -- What the functions of this crate promise each other, by the definitions of the other files. No public promise cites this file.
-use Rattle.std.specs.Prelude.{ℕ, ◌+◌, ◌-◌, ◌*◌, ◌/◌, Bool, List, [], ◌∷◌, leb, ltb, eqb, length, drop}
+use Rattle.std.specs.Prelude.{ℕ, ◌+◌, ◌-◌, ◌*◌, ◌/◌, Bool, List, [], ◌∷◌, leb, ltb, eqb, length, drop, if◌then◌else◌}
 use Rattle.std.proofs.lemmas.List.Edits.{sets}
 use Rattle.fields.specs.Answer.{Answer, and_then}
-use Rattle.fields.specs.Choice.{if◌then◌else◌}
 use Rattle.fields.specs.Staged.{run}
 use Rattle.header.specs.declared.flags.LargeFileFlag.{LargeFileFlag}
 use Rattle.header.specs.Size.{size_width}

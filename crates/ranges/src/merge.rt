@@ -1,6 +1,5 @@
 // Two sides walked together, stretch by stretch: the longest ranges for which either asks, only one of them, or the first alone.
-ghost use Rattle.std.specs.Prelude.{◌≡◌, leb, length};
-ghost use Rattle.fields.specs.Choice.{if◌then◌else◌};
+ghost use Rattle.std.specs.Prelude.{◌≡◌, leb, length, if◌then◌else◌};
 ghost use Rattle.ranges.specs.Pairs.{Rising};
 ghost use Rattle.ranges.specs.Merging.{label_of, merged};
 ghost use Rattle.ranges.specs.Within.{pairs_in, laid};

@@ -73,9 +73,9 @@ one_more c = record { taken = suc c.taken; gives = c.gives; leaves = c.leaves }
 
 -- what a state says comes first: 'a NAK is given with the byte that completes it', and a refusal is repeated and no byte taken; else the call goes on
 abbrev pub hear : Answer Nak → Receiver → Call → Call
-hear (accepted n) r goesOn = record { taken = 0; gives = nak n; leaves = begun r }
-hear (short l n) r goesOn = goesOn
-hear (refused ns) r goesOn = record { taken = 0; gives = refusal ns; leaves = r }
+hear (accepted n) r goes_on = record { taken = 0; gives = nak n; leaves = begun r }
+hear (short l n) r goes_on = goes_on
+hear (refused ns) r goes_on = record { taken = 0; gives = refusal ns; leaves = r }
 
 -- a call with a fragment: a byte of it at a time; behind its last more is wanted
 unfoldable pub call : Receiver → List ℕ → Call

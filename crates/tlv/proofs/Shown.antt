@@ -12,7 +12,7 @@ use lib.Dec.{leb}
 use lib.ListN.{length, drop, take, length-drop}
 use lib.Seq.{drop-drop, take-add, take_all, length-take-le}
 use borrow.Author.Tests.{le-leb, leb-true, leb-false}
-use Rattle.fields.specs.Choice.{if◌then◌else◌}
+use Rattle.std.specs.Prelude.{if◌then◌else◌}
 use Rattle.fields.specs.BigEndian.{Bytes}
 use Rattle.fields.proofs.BigEndian.{number_bytes}
 use Rattle.tlv.specs.declared.Form.{Form}

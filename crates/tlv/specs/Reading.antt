@@ -1,6 +1,5 @@
 -- A field at a place of an area: where its value starts and stops, or that it is cut.
-use Rattle.std.specs.Prelude.{ℕ, ◌+◌, ◌-◌, Bool, ◌&&◌, List, [], leb, eqb, length, take, drop}
-use Rattle.fields.specs.Choice.{if◌then◌else◌}
+use Rattle.std.specs.Prelude.{ℕ, ◌+◌, ◌-◌, Bool, ◌&&◌, List, [], leb, eqb, length, take, drop, if◌then◌else◌}
 use Rattle.fields.specs.BigEndian.{number_at}
 use Rattle.tlv.specs.declared.Form.{Form}
 use Rattle.tlv.specs.declared.Field.{Field}

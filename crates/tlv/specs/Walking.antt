@@ -1,6 +1,5 @@
 -- The fields of an area, one behind the other; the cursor that walks them; and where the first one lies that is cut.
-use Rattle.std.specs.Prelude.{ℕ, zero, suc, List, [], ◌∷◌, map, leb, length}
-use Rattle.fields.specs.Choice.{if◌then◌else◌}
+use Rattle.std.specs.Prelude.{ℕ, zero, suc, List, [], ◌∷◌, map, leb, length, if◌then◌else◌}
 use Rattle.tlv.specs.declared.Form.{Form}
 use Rattle.tlv.specs.declared.Field.{Field}
 use Rattle.tlv.specs.declared.walk.NextField.{NextField}

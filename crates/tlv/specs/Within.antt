@@ -1,6 +1,5 @@
 -- What private functions promise.
-use Rattle.std.specs.Prelude.{ℕ, List}
-use Rattle.fields.specs.Choice.{if◌then◌else◌}
+use Rattle.std.specs.Prelude.{ℕ, List, if◌then◌else◌}
 use Rattle.tlv.specs.declared.Form.{Form}
 use Rattle.tlv.specs.Reading.{stop_at, is_whole}
 

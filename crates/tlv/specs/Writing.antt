@@ -1,7 +1,6 @@
 -- What a write leaves in the lent buffer.
-use Rattle.std.specs.Prelude.{ℕ, ◌+◌, ◌&&◌, List, leb, length}
+use Rattle.std.specs.Prelude.{ℕ, ◌+◌, ◌&&◌, List, leb, length, if◌then◌else◌}
 use Rattle.std.proofs.lemmas.List.Edits.{sets}
-use Rattle.fields.specs.Choice.{if◌then◌else◌}
 use Rattle.fields.specs.BigEndian.{be_bytes}
 use Rattle.fields.specs.Width.{fits_width}
 use Rattle.tlv.specs.declared.Form.{Form}
