@@ -1,5 +1,5 @@
 // The thin reader of segment requests (the Rust's `SegmentRequestIter`): the request area, lent, and a cursor in it.
-// Nothing is tested or computed here: a function over a struct that holds a reference is proved by hand, so the work is left to `request_area` and `RequestCursor`.
+// Nothing is tested or computed here: the work is `request_area`'s and `RequestCursor`'s.
 ghost use Rattle.std.specs.Prelude.{◌≡◌};
 ghost use Rattle.nak.specs.Requests.{area_of, next_request};
 
