@@ -21,8 +21,8 @@ static void read_raw(void) {
     cfdp_nak_read(bytes, length, answer);
     if (answer[CFDP_ANSWER_NUMBER] != CFDP_ACCEPTED)
         exit(1);
-    const uint8_t *area = bytes + answer[CFDP_ANSWER_NAK_AREA_START];
-    size_t area_len = answer[CFDP_ANSWER_NAK_DATA_END] - answer[CFDP_ANSWER_NAK_AREA_START];
+    const uint8_t *area = bytes + answer[CFDP_ANSWER_NAK_AREA];
+    size_t area_len = answer[CFDP_ANSWER_NAK_STOP] - answer[CFDP_ANSWER_NAK_AREA];
     for (size_t i = 0; cfdp_nak_pair(area, area_len, answer[CFDP_ANSWER_LARGE] != 0, i, pair); i++)
         asked += pair[1] - pair[0];
     sink = asked;
@@ -46,14 +46,14 @@ static void write_raw(void) {
     cfdp_nak_write_normal(shape, ids, scope.start, scope.end, &pairs->start, 2 * count, bytes, sizeof bytes, answer);
     if (answer[CFDP_ANSWER_NUMBER] != CFDP_ACCEPTED)
         exit(1);
-    sink = answer[CFDP_ANSWER_PDU_LENGTH];
+    sink = answer[CFDP_ANSWER_WRITTEN];
 }
 
 static void write_typed(void) {
     cfdp_written written;
     if (cfdp_nak_put_normal(&header, scope, pairs, count, bytes, sizeof bytes, &written).number != CFDP_ACCEPTED)
         exit(1);
-    sink = written.pdu_length;
+    sink = written.length;
 }
 
 static double per_call(void (*call)(void), unsigned turns) {

@@ -166,6 +166,10 @@ answers 1 nakdiff -x "$room/other.hex" - <<'END'
 --
 refused 18 2 2    # pair or range out of order: NAK 2, pair 2
 END
+# The program itself says what it cannot open, in the system's words.
+printf 'nosuch: No such file or directory\n' >"$room/wanted"
+./run nakdiff nosuch "$room/other.hex" >"$room/seen" 2>&1 || :
+holds 'nakdiff names a file that is not there' cmp "$room/wanted" "$room/seen"
 
 # ---- nakowed: N was heard, 120 to 150 was resent, then 100 to 200; then a range that is backwards
 

@@ -34,7 +34,7 @@ typedef struct cfdp_slice {
     size_t length;
 } cfdp_slice;
 
-/* First byte, and first byte after: a scope, or a request of a NAK; in cfdp_normal_pair a request of four bytes a number. */
+/* First byte, and first byte behind: a scope, or a request of a NAK; in cfdp_normal_pair a request of four bytes a number. */
 typedef struct cfdp_pair {
     uint64_t start, end;
 } cfdp_pair;
@@ -57,10 +57,10 @@ typedef struct cfdp_header {
     uint64_t source, sequence, destination;
 } cfdp_header;
 
-/* What was written: the header as it stands in the PDU, and how many bytes, P. */
+/* What was written: the header as it stands in the PDU, and how many bytes. */
 typedef struct cfdp_written {
     cfdp_header header;
-    size_t pdu_length;
+    size_t length;
 } cfdp_written;
 
 /* A NAK that was read. */
@@ -69,14 +69,14 @@ typedef struct cfdp_nak {
     cfdp_pair scope;
     cfdp_slice area;   /* the bytes of its requests, where they were read */
     size_t pairs;      /* so many whole ones */
-    size_t data_end;   /* E, where the data ends */
+    size_t data_end;   /* E, where the data stops */
     size_t pdu_length; /* P, where the next PDU starts */
 } cfdp_nak;
 
-/* Room for the pairs of a NAK: their bytes go from buf + area_start up to buf + data_end. */
+/* Room for the pairs of a NAK: their bytes go from buf + area up to buf + stop. */
 typedef struct cfdp_reserved {
     cfdp_header header;
-    size_t pairs, area_start, data_end;
+    size_t pairs, area, stop;
     size_t pdu_length; /* that the NAK will have */
 } cfdp_reserved;
 
@@ -114,13 +114,13 @@ typedef struct cfdp_metadata {
     uint8_t checksum_type; /* 0, 1, 2, 3 or 15 */
     uint64_t file_size;
     cfdp_slice source_name, destination_name;
-    cfdp_slice option_area; /* type, length and value of each option */
+    cfdp_slice options; /* type, length and value of each */
     size_t data_end, pdu_length;
 } cfdp_metadata;
 
 /* An option of a Metadata PDU. */
 typedef struct cfdp_option {
-    uint8_t option_type;
+    uint8_t type;
     cfdp_slice value;
 } cfdp_option;
 
@@ -217,13 +217,13 @@ static inline cfdp_status cfdp_status_of(uint64_t answer[CFDP_ANSWER_LEN]) {
 }
 
 static inline cfdp_header cfdp_header_of(const uint64_t answer[CFDP_ANSWER_LEN]) {
-    cfdp_header header = {answer[CFDP_ANSWER_PDU_TYPE] != 0,
+    cfdp_header header = {answer[CFDP_ANSWER_TYPE] != 0,
                           answer[CFDP_ANSWER_DIRECTION] != 0,
                           answer[CFDP_ANSWER_MODE] != 0,
                           answer[CFDP_ANSWER_CRC] != 0,
                           answer[CFDP_ANSWER_LARGE] != 0,
-                          answer[CFDP_ANSWER_SEGMENTATION_CONTROL] != 0,
-                          answer[CFDP_ANSWER_SEGMENT_METADATA] != 0,
+                          answer[CFDP_ANSWER_CONTROL] != 0,
+                          answer[CFDP_ANSWER_METADATA] != 0,
                           (uint8_t)answer[CFDP_ANSWER_SOURCE_WIDTH],
                           (uint8_t)answer[CFDP_ANSWER_SEQUENCE_WIDTH],
                           (uint16_t)answer[CFDP_ANSWER_DATA_LENGTH],
@@ -241,13 +241,13 @@ typedef struct cfdp_numbers {
 
 static inline cfdp_numbers cfdp_numbers_of(const cfdp_header *header) {
     cfdp_numbers numbers;
-    numbers.shape[CFDP_SHAPE_PDU_TYPE] = header->file_data;
+    numbers.shape[CFDP_SHAPE_TYPE] = header->file_data;
     numbers.shape[CFDP_SHAPE_DIRECTION] = header->towards_sender;
     numbers.shape[CFDP_SHAPE_MODE] = header->unacknowledged;
     numbers.shape[CFDP_SHAPE_CRC] = header->crc;
     numbers.shape[CFDP_SHAPE_LARGE] = header->large;
-    numbers.shape[CFDP_SHAPE_SEGMENTATION_CONTROL] = header->segmentation_control;
-    numbers.shape[CFDP_SHAPE_SEGMENT_METADATA] = header->segment_metadata;
+    numbers.shape[CFDP_SHAPE_CONTROL] = header->segmentation_control;
+    numbers.shape[CFDP_SHAPE_METADATA] = header->segment_metadata;
     numbers.shape[CFDP_SHAPE_SOURCE_WIDTH] = header->entity_width;
     numbers.shape[CFDP_SHAPE_SEQUENCE_WIDTH] = header->sequence_width;
     numbers.shape[CFDP_SHAPE_DESTINATION_WIDTH] = header->entity_width;
@@ -257,22 +257,20 @@ static inline cfdp_numbers cfdp_numbers_of(const cfdp_header *header) {
     return numbers;
 }
 
-/* P of a PDU whose data ends at E: the checksum stands between. */
-static inline size_t cfdp_pdu_length_of(const cfdp_header *header, size_t data_end) {
-    return data_end + (header->crc ? 2u : 0u);
+/* P of a PDU whose data stops at E: the checksum stands between. */
+static inline size_t cfdp_behind(const cfdp_header *header, size_t data_end) { return data_end + (header->crc ? 2u : 0u); }
+
+/* The bytes from one place of an answer up to another. */
+static inline cfdp_slice cfdp_part(const uint8_t *bytes, uint64_t start, uint64_t stop) {
+    cfdp_slice part = {bytes + start, (size_t)(stop - start)};
+    return part;
 }
 
-/* The bytes from one offset up to another. */
-static inline cfdp_slice cfdp_slice_of(const uint8_t *bytes, uint64_t start, uint64_t end) {
-    cfdp_slice slice = {bytes + start, (size_t)(end - start)};
-    return slice;
-}
-
-/* HEADER and P. */
+/* HEADER and the written length. */
 static inline cfdp_status cfdp_written_of(uint64_t answer[CFDP_ANSWER_LEN], cfdp_written *written) {
     cfdp_status status = cfdp_status_of(answer);
     written->header = cfdp_header_of(answer);
-    written->pdu_length = (size_t)answer[CFDP_ANSWER_PDU_LENGTH];
+    written->length = (size_t)answer[CFDP_ANSWER_WRITTEN];
     return status;
 }
 
@@ -338,15 +336,15 @@ static inline cfdp_status cfdp_header_judge(const cfdp_header *header) {
     return cfdp_status_of(answer);
 }
 
-/* cfdp_header_write: the header with its own data_length; how many bytes, h. */
-static inline cfdp_status cfdp_header_put(const cfdp_header *header, uint8_t *buf, size_t buf_len, size_t *header_length) {
+/* cfdp_header_write: the header with its own data_length; how many bytes. */
+static inline cfdp_status cfdp_header_put(const cfdp_header *header, uint8_t *buf, size_t buf_len, size_t *length) {
     const cfdp_numbers numbers = cfdp_numbers_of(header);
     uint64_t answer[CFDP_ANSWER_LEN];
     cfdp_header_write(numbers.shape, header->data_length, numbers.ids, buf, buf_len, answer);
-    return cfdp_value_of(answer, header_length);
+    return cfdp_value_of(answer, length);
 }
 
-/* cfdp_header_verify: whether the header's whole PDU is there, and its checksum right; where its data ends, E. */
+/* cfdp_header_verify: whether the header's whole PDU is there, and its checksum right; where its data stops. */
 static inline cfdp_status cfdp_pdu_verify(const cfdp_header *header, const uint8_t *bytes, size_t length, size_t *data_end) {
     const cfdp_numbers numbers = cfdp_numbers_of(header);
     uint64_t answer[CFDP_ANSWER_LEN];
@@ -360,12 +358,12 @@ static inline cfdp_status cfdp_pdu_verify(const cfdp_header *header, const uint8
 static inline cfdp_status cfdp_nak_of(uint64_t answer[CFDP_ANSWER_LEN], const uint8_t *bytes, cfdp_nak *nak) {
     cfdp_status status = cfdp_status_of(answer);
     nak->header = cfdp_header_of(answer);
-    nak->scope.start = answer[CFDP_ANSWER_NAK_SCOPE_START];
-    nak->scope.end = answer[CFDP_ANSWER_NAK_SCOPE_END];
-    nak->area = cfdp_slice_of(bytes, answer[CFDP_ANSWER_NAK_AREA_START], answer[CFDP_ANSWER_NAK_DATA_END]);
+    nak->scope.start = answer[CFDP_ANSWER_NAK_START];
+    nak->scope.end = answer[CFDP_ANSWER_NAK_END];
+    nak->area = cfdp_part(bytes, answer[CFDP_ANSWER_NAK_AREA], answer[CFDP_ANSWER_NAK_STOP]);
     nak->pairs = (size_t)answer[CFDP_ANSWER_NAK_PAIRS];
-    nak->data_end = (size_t)answer[CFDP_ANSWER_NAK_DATA_END];
-    nak->pdu_length = cfdp_pdu_length_of(&nak->header, nak->data_end);
+    nak->data_end = (size_t)answer[CFDP_ANSWER_NAK_STOP];
+    nak->pdu_length = cfdp_behind(&nak->header, nak->data_end);
     return status;
 }
 
@@ -426,9 +424,9 @@ static inline cfdp_status cfdp_reserved_get(const cfdp_header *header, size_t pa
     cfdp_status status = cfdp_status_of(answer);
     reserved->header = cfdp_header_of(answer);
     reserved->pairs = (size_t)answer[CFDP_ANSWER_RESERVED_PAIRS];
-    reserved->area_start = (size_t)answer[CFDP_ANSWER_RESERVED_AREA_START];
-    reserved->data_end = (size_t)answer[CFDP_ANSWER_RESERVED_DATA_END];
-    reserved->pdu_length = (size_t)answer[CFDP_ANSWER_RESERVED_PDU_LENGTH];
+    reserved->area = (size_t)answer[CFDP_ANSWER_RESERVED_AREA];
+    reserved->stop = (size_t)answer[CFDP_ANSWER_RESERVED_STOP];
+    reserved->pdu_length = (size_t)answer[CFDP_ANSWER_RESERVED_LENGTH];
     return status;
 }
 
@@ -441,8 +439,8 @@ static inline cfdp_status cfdp_reserved_finish(const cfdp_reserved *reserved, cf
     return cfdp_written_of(answer, written);
 }
 
-/* cfdp_nak_most: how many pairs a packet of so many bytes holds at most. */
-static inline cfdp_status cfdp_nak_most_requests(const cfdp_header *header, size_t packet, size_t *pairs) {
+/* cfdp_nak_most: how many pairs a packet of so many bytes holds. */
+static inline cfdp_status cfdp_nak_room(const cfdp_header *header, size_t packet, size_t *pairs) {
     const cfdp_numbers numbers = cfdp_numbers_of(header);
     uint64_t answer[CFDP_ANSWER_LEN];
     cfdp_nak_most(numbers.shape, numbers.ids, packet, answer);
@@ -518,8 +516,8 @@ static inline cfdp_status cfdp_eof_get(const uint8_t *bytes, size_t length, cfdp
     eof->fault = answer[CFDP_ANSWER_EOF_FAULT] != 0;
     eof->fault_width = (uint8_t)answer[CFDP_ANSWER_EOF_FAULT_WIDTH];
     eof->fault_value = answer[CFDP_ANSWER_EOF_FAULT_VALUE];
-    eof->data_end = (size_t)answer[CFDP_ANSWER_EOF_DATA_END];
-    eof->pdu_length = cfdp_pdu_length_of(&eof->header, eof->data_end);
+    eof->data_end = (size_t)answer[CFDP_ANSWER_EOF_STOP];
+    eof->pdu_length = cfdp_behind(&eof->header, eof->data_end);
     return status;
 }
 
@@ -543,8 +541,8 @@ static inline cfdp_status cfdp_ack_get(const uint8_t *bytes, size_t length, cfdp
     ack->directive = (uint8_t)answer[CFDP_ANSWER_ACK_DIRECTIVE];
     ack->condition = (uint8_t)answer[CFDP_ANSWER_ACK_CONDITION];
     ack->transaction_status = (uint8_t)answer[CFDP_ANSWER_ACK_STATUS];
-    ack->data_end = (size_t)answer[CFDP_ANSWER_ACK_DATA_END];
-    ack->pdu_length = cfdp_pdu_length_of(&ack->header, ack->data_end);
+    ack->data_end = (size_t)answer[CFDP_ANSWER_ACK_STOP];
+    ack->pdu_length = cfdp_behind(&ack->header, ack->data_end);
     return status;
 }
 
@@ -567,29 +565,26 @@ static inline cfdp_status cfdp_metadata_get(const uint8_t *bytes, size_t length,
     metadata->closure = answer[CFDP_ANSWER_METADATA_CLOSURE] != 0;
     metadata->checksum_type = (uint8_t)answer[CFDP_ANSWER_METADATA_CHECKSUM_TYPE];
     metadata->file_size = answer[CFDP_ANSWER_METADATA_FILE_SIZE];
-    metadata->source_name =
-        cfdp_slice_of(bytes, answer[CFDP_ANSWER_METADATA_SOURCE_NAME_START], answer[CFDP_ANSWER_METADATA_SOURCE_NAME_END]);
-    metadata->destination_name = cfdp_slice_of(bytes, answer[CFDP_ANSWER_METADATA_DESTINATION_NAME_START],
-                                               answer[CFDP_ANSWER_METADATA_DESTINATION_NAME_END]);
-    metadata->option_area =
-        cfdp_slice_of(bytes, answer[CFDP_ANSWER_METADATA_OPTION_AREA_START], answer[CFDP_ANSWER_METADATA_DATA_END]);
-    metadata->data_end = (size_t)answer[CFDP_ANSWER_METADATA_DATA_END];
-    metadata->pdu_length = cfdp_pdu_length_of(&metadata->header, metadata->data_end);
+    metadata->source_name = cfdp_part(bytes, answer[CFDP_ANSWER_METADATA_SOURCE], answer[CFDP_ANSWER_METADATA_SOURCE_STOP]);
+    metadata->destination_name =
+        cfdp_part(bytes, answer[CFDP_ANSWER_METADATA_DESTINATION], answer[CFDP_ANSWER_METADATA_DESTINATION_STOP]);
+    metadata->options = cfdp_part(bytes, answer[CFDP_ANSWER_METADATA_OPTIONS], answer[CFDP_ANSWER_METADATA_STOP]);
+    metadata->data_end = (size_t)answer[CFDP_ANSWER_METADATA_STOP];
+    metadata->pdu_length = cfdp_behind(&metadata->header, metadata->data_end);
     return status;
 }
 
-/* cfdp_metadata_option: the option at that place of an option area; the place is then the next one's. False where there is none: the place
-   is then the area's length at its end, and less where an option runs past it, which it does in no PDU that was read.
+/* cfdp_metadata_option: the option at that place of the options, which then is the next one's. False where there is none: the place is
+   then the options' length at their end, and less where an option runs past it, which it does in no PDU that was read.
 
-     for (size_t at = 0; cfdp_option_next(metadata.option_area, &at, &option);)
+     for (size_t at = 0; cfdp_option_next(metadata.options, &at, &option);)
          .. */
-static inline bool cfdp_option_next(cfdp_slice option_area, size_t *at, cfdp_option *option) {
+static inline bool cfdp_option_next(cfdp_slice options, size_t *at, cfdp_option *option) {
     uint64_t answer[CFDP_ANSWER_LEN];
-    cfdp_metadata_option(option_area.bytes, option_area.length, *at, answer);
+    cfdp_metadata_option(options.bytes, options.length, *at, answer);
     cfdp_status_of(answer);
-    option->option_type = (uint8_t)answer[CFDP_ANSWER_OPTION_TYPE];
-    option->value =
-        cfdp_slice_of(option_area.bytes, answer[CFDP_ANSWER_OPTION_VALUE_START], answer[CFDP_ANSWER_OPTION_VALUE_END]);
+    option->type = (uint8_t)answer[CFDP_ANSWER_OPTION_TYPE];
+    option->value = cfdp_part(options.bytes, answer[CFDP_ANSWER_OPTION_START], answer[CFDP_ANSWER_OPTION_STOP]);
     if (answer[CFDP_ANSWER_OPTION_NEXT] == 0)
         return false;
     *at = (size_t)answer[CFDP_ANSWER_OPTION_NEXT];
@@ -602,8 +597,8 @@ static inline cfdp_status cfdp_metadata_put(const cfdp_metadata *metadata, uint8
     uint64_t answer[CFDP_ANSWER_LEN];
     cfdp_metadata_write(numbers.shape, numbers.ids, metadata->closure, metadata->checksum_type, metadata->file_size,
                         metadata->source_name.bytes, metadata->source_name.length, metadata->destination_name.bytes,
-                        metadata->destination_name.length, metadata->option_area.bytes, metadata->option_area.length, buf,
-                        buf_len, answer);
+                        metadata->destination_name.length, metadata->options.bytes, metadata->options.length, buf, buf_len,
+                        answer);
     return cfdp_written_of(answer, written);
 }
 

@@ -3,7 +3,6 @@ use crate::header::{accepted, port_header};
 use crate::timing::row;
 use cfdp::{EntityId, Header, Nak, Pair, Pairs, TransactionSeqNum};
 use port::ffi::{self, ANSWER_LEN};
-use port::places::*;
 use std::hint::black_box;
 
 const SCOPE: Pair = Pair {
@@ -39,7 +38,7 @@ pub fn nak(count: u32) {
         || {
             let pairs = Pairs::Normal(black_box(&pairs));
             let written = Nak::write(black_box(&header), SCOPE, pairs, &mut other);
-            written.expect("there is room").pdu_length
+            written.expect("there is room").length
         },
     );
     assert_eq!(one, other);
@@ -63,7 +62,7 @@ fn write_raw(numbers: &[u32], buf: &mut [u8]) -> usize {
         &mut answer,
     );
     accepted(&answer);
-    answer[ANSWER_PDU_LENGTH] as usize
+    answer[15] as usize
 }
 
 /// How many bytes are asked for.
@@ -71,10 +70,9 @@ fn walk_raw(bytes: &[u8]) -> u64 {
     let mut answer = [0; ANSWER_LEN];
     ffi::nak_read(bytes, &mut answer);
     accepted(&answer);
-    let area_start = answer[ANSWER_NAK_AREA_START] as usize;
-    let area = &bytes[area_start..answer[ANSWER_NAK_DATA_END] as usize];
+    let area = &bytes[answer[17] as usize..answer[18] as usize];
     let (mut pair, mut index, mut asked) = ([0; 2], 0, 0);
-    while ffi::nak_pair(area, answer[ANSWER_LARGE] == 1, index, &mut pair) {
+    while ffi::nak_pair(area, answer[5] == 1, index, &mut pair) {
         asked += pair[1] - pair[0];
         index += 1;
     }

@@ -32,13 +32,13 @@ static void list(const uint8_t *bytes, size_t length) {
     }
     printf("nak %" PRIu64 " %" PRIu64 " %" PRIu64 "\n", answer[CFDP_ANSWER_SOURCE], answer[CFDP_ANSWER_SEQUENCE],
            answer[CFDP_ANSWER_DESTINATION]);
-    printf("scope %" PRIu64 " %" PRIu64 "\n", answer[CFDP_ANSWER_NAK_SCOPE_START], answer[CFDP_ANSWER_NAK_SCOPE_END]);
-    const uint8_t *area = bytes + answer[CFDP_ANSWER_NAK_AREA_START];
-    size_t area_len = answer[CFDP_ANSWER_NAK_DATA_END] - answer[CFDP_ANSWER_NAK_AREA_START];
+    printf("scope %" PRIu64 " %" PRIu64 "\n", answer[CFDP_ANSWER_NAK_START], answer[CFDP_ANSWER_NAK_END]);
+    const uint8_t *area = bytes + answer[CFDP_ANSWER_NAK_AREA];
+    size_t area_len = answer[CFDP_ANSWER_NAK_STOP] - answer[CFDP_ANSWER_NAK_AREA];
     uint64_t pair[2];
     for (size_t i = 0; cfdp_nak_pair(area, area_len, answer[CFDP_ANSWER_LARGE] != 0, i, pair); i++)
         printf("request %" PRIu64 " %" PRIu64 "\n", pair[0], pair[1]);
-    printf("end %" PRIu64 "\n", answer[CFDP_ANSWER_NAK_DATA_END]);
+    printf("end %" PRIu64 "\n", answer[CFDP_ANSWER_NAK_STOP]);
 }
 
 /* N's numbers: flags clear, widths 1; the direction bit is the writer's */
@@ -56,16 +56,15 @@ static const char *same(const uint8_t *buf) { return memcmp(buf, N, sizeof N) ==
 static void finish_n(uint8_t buf[24]) {
     uint64_t place[CFDP_ANSWER_LEN], answer[CFDP_ANSWER_LEN];
     cfdp_nak_reserve(shape, ids, 1, buf, 24, place);
-    uint64_t area_start = place[CFDP_ANSWER_RESERVED_AREA_START], data_end = place[CFDP_ANSWER_RESERVED_DATA_END];
-    memcpy(buf + area_start, N + area_start, data_end - area_start);
+    uint64_t area = place[CFDP_ANSWER_RESERVED_AREA], stop = place[CFDP_ANSWER_RESERVED_STOP];
+    memcpy(buf + area, N + area, stop - area);
     cfdp_nak_finish(shape, ids, 1, 0, 1000, buf, 24, answer);
-    printf("reserved %" PRIu64 " to %" PRIu64 ", finished %" PRIu64 ", %s\n", area_start, data_end,
-           answer[CFDP_ANSWER_PDU_LENGTH], same(buf));
+    printf("reserved %" PRIu64 " to %" PRIu64 ", finished %" PRIu64 ", %s\n", area, stop, answer[CFDP_ANSWER_WRITTEN], same(buf));
 }
 
-static uint64_t compare_n(uint64_t scope_end) {
+static uint64_t compare_n(uint64_t end) {
     uint64_t answer[CFDP_ANSWER_LEN];
-    cfdp_nak_compare_normal(N, sizeof N, shape, ids, 0, scope_end, numbers, 2, answer);
+    cfdp_nak_compare_normal(N, sizeof N, shape, ids, 0, end, numbers, 2, answer);
     return answer[CFDP_ANSWER_VALUE];
 }
 
@@ -77,12 +76,12 @@ static void cut(const uint8_t *stream, size_t length) {
         cfdp_header_read(stream + at, length - at, answer);
         if (answer[CFDP_ANSWER_NUMBER] != CFDP_ACCEPTED)
             break;
-        size_t pdu_length = answer[CFDP_ANSWER_HEADER_LENGTH] + answer[CFDP_ANSWER_DATA_LENGTH];
-        if (length - at < pdu_length)
+        size_t pdu = answer[CFDP_ANSWER_HEADER_LENGTH] + answer[CFDP_ANSWER_DATA_LENGTH];
+        if (length - at < pdu)
             break;
-        cfdp_nak_read(stream + at, pdu_length, answer);
-        printf("at %zu, %zu bytes: %" PRIu64 "\n", at, pdu_length, answer[CFDP_ANSWER_NUMBER]);
-        at += pdu_length;
+        cfdp_nak_read(stream + at, pdu, answer);
+        printf("at %zu, %zu bytes: %" PRIu64 "\n", at, pdu, answer[CFDP_ANSWER_NUMBER]);
+        at += pdu;
     }
     printf("%zu bytes wait\n", length - at);
 }
@@ -104,7 +103,7 @@ int main(void) {
     uint8_t buf[24] = {0};
     uint64_t answer[CFDP_ANSWER_LEN];
     write_n(buf, sizeof buf, answer);
-    printf("written %" PRIu64 ", %s\n", answer[CFDP_ANSWER_PDU_LENGTH], same(buf));
+    printf("written %" PRIu64 ", %s\n", answer[CFDP_ANSWER_WRITTEN], same(buf));
     memset(buf, 0, sizeof buf);
     finish_n(buf);
 

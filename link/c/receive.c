@@ -25,8 +25,8 @@ struct heard {
 
 static void count(const uint8_t *window, const uint64_t *answer, struct heard *heard) {
     uint64_t pair[2];
-    const uint8_t *area = window + answer[CFDP_ANSWER_NAK_AREA_START];
-    size_t area_len = answer[CFDP_ANSWER_NAK_DATA_END] - answer[CFDP_ANSWER_NAK_AREA_START];
+    const uint8_t *area = window + answer[CFDP_ANSWER_NAK_AREA];
+    size_t area_len = answer[CFDP_ANSWER_NAK_STOP] - answer[CFDP_ANSWER_NAK_AREA];
     heard->naks++;
     for (size_t i = 0; cfdp_nak_pair(area, area_len, answer[CFDP_ANSWER_LARGE] != 0, i, pair); i++) {
         heard->requests++;

@@ -50,15 +50,14 @@ static void write_n(const cfdp_header *header) {
     cfdp_reserved reserved;
 
     cfdp_nak_put_normal(header, scope, pairs, 1, buf, sizeof buf, &written);
-    printf("written %zu, %s\n", written.pdu_length, same(buf, N, sizeof N));
+    printf("written %zu, %s\n", written.length, same(buf, N, sizeof N));
 
     /* the pairs' bytes go into the reserved area before the rest is written */
     memset(buf, 0, sizeof buf);
     cfdp_reserved_get(header, 1, buf, sizeof buf, &reserved);
-    memcpy(buf + reserved.area_start, N + reserved.area_start, reserved.data_end - reserved.area_start);
+    memcpy(buf + reserved.area, N + reserved.area, reserved.stop - reserved.area);
     cfdp_reserved_finish(&reserved, scope, buf, sizeof buf, &written);
-    printf("reserved %zu to %zu, finished %zu, %s\n", reserved.area_start, reserved.data_end, written.pdu_length,
-           same(buf, N, sizeof N));
+    printf("reserved %zu to %zu, finished %zu, %s\n", reserved.area, reserved.stop, written.length, same(buf, N, sizeof N));
 
     list(N, 20);
 
@@ -68,8 +67,8 @@ static void write_n(const cfdp_header *header) {
     printf(", %s\n", memcmp(buf, before, 23) == 0 ? "no byte changed" : "bytes changed");
 }
 
-static bool compare_n(const cfdp_header *header, uint64_t scope_end) {
-    cfdp_pair until = {0, scope_end};
+static bool compare_n(const cfdp_header *header, uint64_t end) {
+    cfdp_pair until = {0, end};
     bool verdict;
     cfdp_nak_same_normal(N, sizeof N, header, until, pairs, 1, &verdict);
     return verdict;
@@ -102,13 +101,13 @@ static void print_header(const cfdp_header *h) {
 
 static void header_there_and_back(const cfdp_header *header) {
     uint8_t buf[28];
-    size_t header_length, pdu_length;
+    size_t length, pdu_length;
     cfdp_header back;
-    cfdp_header_put(header, buf, sizeof buf, &header_length);
+    cfdp_header_put(header, buf, sizeof buf, &length);
     printf("header");
-    for (size_t i = 0; i < header_length; i++)
+    for (size_t i = 0; i < length; i++)
         printf(" %02x", buf[i]);
-    cfdp_header_get(buf, header_length, &back, &pdu_length);
+    cfdp_header_get(buf, length, &back, &pdu_length);
     printf(": ");
     print_header(&back);
     printf(", P %zu\n", pdu_length);
@@ -117,18 +116,18 @@ static void header_there_and_back(const cfdp_header *header) {
 /* two headers with no flag alike */
 static void headers(void) {
     cfdp_header one = cfdp_header_new(2, 513, 514, 4, 70000), other = cfdp_header_new(1, 1, 3, 1, 2);
-    size_t most, pdu_length, data_end;
+    size_t most, data_end;
     one.file_data = one.unacknowledged = one.large = one.segment_metadata = true;
     other.towards_sender = other.crc = other.segmentation_control = true;
     one.data_length = other.data_length = 258;
     header_there_and_back(&one);
     header_there_and_back(&other);
 
-    cfdp_nak_most_requests(&other, 60, &most);
+    cfdp_nak_room(&other, 60, &most);
     printf("a packet of 60 bytes holds %zu\n", most);
     other.source = 256;
     print_refusal(cfdp_header_judge(&other));
-    cfdp_header_get(N, sizeof N, &other, &pdu_length);
+    cfdp_header_get(N, sizeof N, &other, &most);
     cfdp_pdu_verify(&other, N, sizeof N, &data_end);
     printf("; N is verified, and ends at %zu\n", data_end);
 }
@@ -143,15 +142,15 @@ static void large_and_none(cfdp_header header) {
     bool verdict;
 
     cfdp_nak_put_large(&header, whole, asked, 2, buf, sizeof buf, &written);
-    cfdp_nak_get(buf, written.pdu_length, &nak);
+    cfdp_nak_get(buf, written.length, &nak);
     size_t copied = cfdp_nak_copy(&nak, copy, 3);
-    cfdp_nak_same_large(buf, written.pdu_length, &header, whole, asked, 2, &verdict);
+    cfdp_nak_same_large(buf, written.length, &header, whole, asked, 2, &verdict);
     printf("large %zu bytes, flag %d, %zu pairs, %zu copied, the last to %" PRIu64 ", then %" PRIu64 "; compared %d\n",
-           written.pdu_length, written.header.large, nak.pairs, copied, copy[1].end, copy[2].end, verdict);
+           written.length, written.header.large, nak.pairs, copied, copy[1].end, copy[2].end, verdict);
 
     cfdp_nak_put(&header, scope, buf, sizeof buf, &written);
-    cfdp_nak_same(buf, written.pdu_length, &header, scope, &verdict);
-    printf("none %zu bytes, compared %d\n", written.pdu_length, verdict);
+    cfdp_nak_same(buf, written.length, &header, scope, &verdict);
+    printf("none %zu bytes, compared %d\n", written.length, verdict);
 }
 
 static void eof_and_ack(cfdp_header header) {
@@ -168,11 +167,11 @@ static void eof_and_ack(cfdp_header header) {
            eof.file_size, eof.fault, eof.fault_width, eof.fault_value, eof.data_end, eof.pdu_length);
     eof.header = header;
     cfdp_eof_put(&eof, buf, sizeof buf, &written);
-    printf("written %zu, %s, towards the sender %d\n", written.pdu_length, same(buf, EOF_PDU, sizeof EOF_PDU),
+    printf("written %zu, %s, towards the sender %d\n", written.length, same(buf, EOF_PDU, sizeof EOF_PDU),
            written.header.towards_sender);
     eof.condition = 12;
     print_refusal(cfdp_eof_put(&eof, buf, sizeof buf, &written));
-    printf(" written %zu\n", written.pdu_length);
+    printf(" written %zu\n", written.length);
 
     cfdp_ack_get(ACK_PDU, sizeof ACK_PDU, &ack);
     printf("ack %d %d %d end %zu next %zu\n", ack.directive, ack.condition, ack.transaction_status, ack.data_end,
@@ -180,17 +179,17 @@ static void eof_and_ack(cfdp_header header) {
     ack.header = header;
     ack.header.crc = true;
     cfdp_ack_put(&ack, buf, sizeof buf, &written);
-    cfdp_ack_get(buf, written.pdu_length, &ack);
-    printf("written %zu, checksum %02x%02x, towards the sender %d, end %zu next %zu\n", written.pdu_length, buf[10], buf[11],
+    cfdp_ack_get(buf, written.length, &ack);
+    printf("written %zu, checksum %02x%02x, towards the sender %d, end %zu next %zu\n", written.length, buf[10], buf[11],
            written.header.towards_sender, ack.data_end, ack.pdu_length);
 }
 
-static void print_options(cfdp_slice option_area) {
+static void print_options(cfdp_slice options) {
     size_t at = 0;
     cfdp_option option;
-    while (cfdp_option_next(option_area, &at, &option))
-        printf("option %d of %zu bytes, ", option.option_type, option.value.length);
-    printf("walked %zu of %zu\n", at, option_area.length);
+    while (cfdp_option_next(options, &at, &option))
+        printf("option %d of %zu bytes, ", option.type, option.value.length);
+    printf("walked %zu of %zu\n", at, options.length);
 }
 
 static void print_name(cfdp_slice name) { printf(" %.*s", (int)name.length, (const char *)name.bytes); }
@@ -204,13 +203,13 @@ static void metadata(cfdp_header header) {
     print_name(pdu.source_name);
     print_name(pdu.destination_name);
     printf(" end %zu next %zu\n", pdu.data_end, pdu.pdu_length);
-    print_options(pdu.option_area);
+    print_options(pdu.options);
     pdu.header = header;
     cfdp_metadata_put(&pdu, buf, sizeof buf, &written);
-    printf("written %zu, %s, towards the sender %d\n", written.pdu_length, same(buf, METADATA_PDU, sizeof buf),
+    printf("written %zu, %s, towards the sender %d\n", written.length, same(buf, METADATA_PDU, sizeof buf),
            written.header.towards_sender);
-    pdu.option_area.length = 5;
-    print_options(pdu.option_area);
+    pdu.options.length = 5;
+    print_options(pdu.options);
     print_refusal(cfdp_metadata_put(&pdu, buf, sizeof buf, &written));
     printf("\n");
 }
@@ -231,7 +230,7 @@ static void take(cfdp_receiver *receiver, cfdp_slice *fragment) {
     printf("\n");
 }
 
-/* N in two pieces, N after it, and five bytes of the next; then a version of 2, twice, and N after a reset */
+/* N in two pieces, N behind it, and five bytes of the next; then a version of 2, twice, and N after a reset */
 static void receive(void) {
     uint8_t bytes[2 * sizeof N + 5];
     cfdp_receiver receiver;
@@ -264,7 +263,7 @@ static void differ(const cfdp_header *header) {
     cfdp_only only[3];
     cfdp_difference difference;
     cfdp_nak_put_normal(header, scope, asked, 2, buf, sizeof buf, &written);
-    cfdp_slice first = {N, sizeof N}, second = {buf, written.pdu_length};
+    cfdp_slice first = {N, sizeof N}, second = {buf, written.length};
     cfdp_differ_get(first, second, only, 3, &difference);
     for (size_t i = 0; i < difference.ranges; i++)
         printf("only %" PRIu64 " %" PRIu64 " %" PRIu64 ", ", only[i].side, only[i].start, only[i].end);
@@ -273,15 +272,15 @@ static void differ(const cfdp_header *header) {
 
 /* N was heard, 120 to 150 was resent, and then an entry of no known tag */
 static void owe(void) {
-    static const uint8_t resent[19 + 3] = {0x02, 0x00, 0x10, 0, 0, 0, 0, 0, 0, 0, 120, 0, 0, 0, 0, 0, 0, 0, 150, 0x03, 0x00, 0x00};
-    uint8_t bytes[3 + sizeof N + sizeof resent] = {0x01, 0x00, 0x18};
+    static const uint8_t behind[19 + 3] = {0x02, 0x00, 0x10, 0, 0, 0, 0, 0, 0, 0, 120, 0, 0, 0, 0, 0, 0, 0, 150, 0x03, 0x00, 0x00};
+    uint8_t bytes[3 + sizeof N + sizeof behind] = {0x01, 0x00, 0x18};
     cfdp_slice log = {bytes, sizeof bytes};
     cfdp_owed owed;
     cfdp_pair range;
     cfdp_status status;
     size_t at = 0;
     memcpy(bytes + 3, N, sizeof N);
-    memcpy(bytes + 3 + sizeof N, resent, sizeof resent);
+    memcpy(bytes + 3 + sizeof N, behind, sizeof behind);
     cfdp_owed_reset(&owed);
     while ((status = cfdp_owed_take(&owed, log, &at)).number == CFDP_ACCEPTED) {
         for (size_t i = 0; cfdp_owed_at(&owed, i, &range); i++)

@@ -61,16 +61,16 @@ fn same(one: &[u8], other: &[u8]) -> &'static str {
 fn write_n(header: &Header) -> Result<(), Refusal> {
     let mut buf = [0; 24];
     let written = Nak::write(header, SCOPE, Pairs::Normal(&PAIRS), &mut buf)?;
-    println!("written {}, {}", written.pdu_length, same(&buf, &N));
+    println!("written {}, {}", written.length, same(&buf, &N));
 
     // The pairs' bytes go into the reserved area before the rest is written.
     let mut buf = [0; 24];
     let reserved = Reserved::new(header, 1, &buf)?;
-    let area = reserved.area_start..reserved.data_end;
+    let area = reserved.area..reserved.stop;
     buf[area.clone()].copy_from_slice(&N[area.clone()]);
-    let pdu_length = reserved.finish(SCOPE, &mut buf)?.pdu_length;
+    let length = reserved.finish(SCOPE, &mut buf)?.length;
     println!(
-        "reserved {} to {}, finished {pdu_length}, {}",
+        "reserved {} to {}, finished {length}, {}",
         area.start,
         area.end,
         same(&buf, &N)
@@ -110,12 +110,9 @@ fn cut_three() {
 
 fn header_there_and_back(header: Header) -> Result<(), Refusal> {
     let mut buf = [0; 28];
-    let header_length = header.write(&mut buf)?;
-    let bytes: String = buf[..header_length]
-        .iter()
-        .map(|b| format!(" {b:02x}"))
-        .collect();
-    let (h, pdu_length) = Header::read(&buf[..header_length])?;
+    let length = header.write(&mut buf)?;
+    let bytes: String = buf[..length].iter().map(|b| format!(" {b:02x}")).collect();
+    let (h, pdu_length) = Header::read(&buf[..length])?;
     let flags = [
         h.file_data,
         h.towards_sender,
@@ -160,10 +157,7 @@ fn headers(header: Header) -> Result<(), Refusal> {
     };
     header_there_and_back(one)?;
     header_there_and_back(other)?;
-    println!(
-        "a packet of 60 bytes holds {}",
-        Nak::most_requests(&other, 60)?
-    );
+    println!("a packet of 60 bytes holds {}", Nak::most(&other, 60)?);
     let source = EntityId(256);
     let refusal = refused(Header { source, ..other }.judge());
     let (header, _) = Header::read(&N)?;
@@ -189,13 +183,13 @@ fn large_and_none(header: &Header) -> Result<(), Refusal> {
     ];
     let mut buf = [0; 56];
     let written = Nak::write(header, whole, Pairs::Large(&asked), &mut buf)?;
-    let nak = Nak::read(&buf[..written.pdu_length])?;
+    let nak = Nak::read(&buf[..written.length])?;
     let mut copy = [Pair { start: 7, end: 7 }; 3];
     let copied = nak.copy(&mut copy);
     let verdict = Nak::same(&buf, header, whole, Pairs::Large(&asked))?;
     println!(
         "large {} bytes, flag {}, {} pairs, {copied} copied, the last to {}, then {}; compared {}",
-        written.pdu_length,
+        written.length,
         written.header.large as u8,
         nak.pairs().len(),
         copy[1].end,
@@ -210,10 +204,7 @@ fn large_and_none(header: &Header) -> Result<(), Refusal> {
 
     let written = Nak::write(header, SCOPE, Pairs::None, &mut buf)?;
     let verdict = Nak::same(&buf, header, SCOPE, Pairs::None)?;
-    println!(
-        "none {} bytes, compared {}",
-        written.pdu_length, verdict as u8
-    );
+    println!("none {} bytes, compared {}", written.length, verdict as u8);
     Ok(())
 }
 
@@ -236,7 +227,7 @@ fn eof_and_ack(header: Header) -> Result<(), Refusal> {
     let written = eof.write(&mut buf)?;
     println!(
         "written {}, {}, towards the sender {}",
-        written.pdu_length,
+        written.length,
         same(&buf, &EOF),
         written.header.towards_sender as u8
     );
@@ -254,10 +245,10 @@ fn eof_and_ack(header: Header) -> Result<(), Refusal> {
         ..header
     };
     let written = Ack { header, ..ack }.write(&mut buf)?;
-    let ack = Ack::read(&buf[..written.pdu_length])?;
+    let ack = Ack::read(&buf[..written.length])?;
     println!(
         "written {}, checksum {:02x}{:02x}, towards the sender {}, end {} next {}",
-        written.pdu_length,
+        written.length,
         buf[10],
         buf[11],
         written.header.towards_sender as u8,
@@ -270,11 +261,7 @@ fn eof_and_ack(header: Header) -> Result<(), Refusal> {
 fn print_options(metadata: &Metadata) {
     let (mut walked, area) = (0, metadata.option_area);
     for option in metadata.options().map_while(Result::ok) {
-        print!(
-            "option {} of {} bytes, ",
-            option.option_type,
-            option.value.len()
-        );
+        print!("option {} of {} bytes, ", option.kind, option.value.len());
         walked += 2 + option.value.len();
     }
     println!("walked {walked} of {}", area.len());
@@ -304,7 +291,7 @@ fn metadata(header: Header) -> Result<(), Refusal> {
     let written = Metadata { header, ..read }.write(&mut buf)?;
     println!(
         "written {}, {}, towards the sender {}",
-        written.pdu_length,
+        written.length,
         same(&buf, METADATA),
         written.header.towards_sender as u8
     );
@@ -332,7 +319,7 @@ fn take(receiver: &mut Receiver, fragment: &mut &[u8]) {
     println!("took {}: {said}", before - fragment.len());
 }
 
-/// N in two pieces, N after it, and five bytes of the next; then a version of 2, twice, and N after a reset.
+/// N in two pieces, N behind it, and five bytes of the next; then a version of 2, twice, and N after a reset.
 fn receive() {
     let bytes = [&N[..], &N, &N[..5]].concat();
     let (mut one, mut other) = bytes.split_at(20);
@@ -444,11 +431,8 @@ fn main() -> Result<(), Refusal> {
     println!("checksum {:x}", checksum(b"123456789"));
     list(&N);
     write_n(&header)?;
-    let compared = |scope_end| {
-        let until = Pair {
-            start: 0,
-            end: scope_end,
-        };
+    let compared = |end| {
+        let until = Pair { start: 0, end };
         Nak::same(&N, &header, until, Pairs::Normal(&PAIRS)).map(u8::from)
     };
     println!(

@@ -2,7 +2,7 @@
 use crate::ffi;
 use crate::Refusal;
 
-/// A range that only one of two NAKs asks for: first byte, first byte after, and whose it is, 1 or 2.
+/// A range that only one of two NAKs asks for: first byte, first byte behind, and whose it is, 1 or 2.
 #[derive(Clone, Copy, Debug, Default, PartialEq, Eq, Hash)]
 #[repr(C)]
 #[allow(missing_docs)]
@@ -27,9 +27,9 @@ pub fn differ(first: &[u8], second: &[u8], ranges: &mut [Only]) -> Result<Differ
     let answer = ffi::differ(first, second, ranges)?;
     Ok(Difference {
         metadata: [
-            answer[ffi::ANSWER_DIFFER_METADATA_1] != 0,
-            answer[ffi::ANSWER_DIFFER_METADATA_2] != 0,
+            answer[ffi::DIFFER_METADATA_1] != 0,
+            answer[ffi::DIFFER_METADATA_2] != 0,
         ],
-        ranges: answer[ffi::ANSWER_DIFFER_RANGES] as usize,
+        ranges: answer[ffi::DIFFER_RANGES] as usize,
     })
 }

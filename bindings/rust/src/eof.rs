@@ -5,7 +5,7 @@ use crate::{EntityId, Header, Refusal, Written};
 /// An EOF that was read or is to be written.
 #[derive(Clone, Copy, Debug, Default, PartialEq, Eq, Hash)]
 pub struct Eof {
-    /// As it stands in the bytes; of an EOF that is to be written, `towards_sender` and `data_length` are worked out.
+    /// As it stands in the bytes; of an EOF that is to be written, direction and length are worked out.
     pub header: Header,
     /// The condition code.
     pub condition: u8,
@@ -15,7 +15,7 @@ pub struct Eof {
     pub file_size: u64,
     /// Where there is one.
     pub fault: Option<FaultLocation>,
-    /// E, where the data ends; not looked at when it is written.
+    /// E, where the data stops; not looked at when it is written.
     pub data_end: usize,
     /// P, where the next PDU starts; likewise.
     pub pdu_length: usize,
@@ -35,19 +35,19 @@ impl Eof {
     pub fn read(bytes: &[u8]) -> Result<Eof, Refusal> {
         let answer = ffi::eof_read(bytes)?;
         let header = Header::of(&answer);
-        let data_end = answer[ffi::ANSWER_EOF_DATA_END] as usize;
+        let data_end = answer[ffi::EOF_STOP] as usize;
         let fault = FaultLocation {
-            width: answer[ffi::ANSWER_EOF_FAULT_WIDTH] as u8,
-            entity: EntityId(answer[ffi::ANSWER_EOF_FAULT_VALUE]),
+            width: answer[ffi::EOF_FAULT_WIDTH] as u8,
+            entity: EntityId(answer[ffi::EOF_FAULT_VALUE]),
         };
         Ok(Eof {
             header,
-            condition: answer[ffi::ANSWER_EOF_CONDITION] as u8,
-            file_checksum: answer[ffi::ANSWER_EOF_FILE_CHECKSUM] as u32,
-            file_size: answer[ffi::ANSWER_EOF_FILE_SIZE],
-            fault: (answer[ffi::ANSWER_EOF_FAULT] != 0).then_some(fault),
+            condition: answer[ffi::EOF_CONDITION] as u8,
+            file_checksum: answer[ffi::EOF_FILE_CHECKSUM] as u32,
+            file_size: answer[ffi::EOF_FILE_SIZE],
+            fault: (answer[ffi::EOF_FAULT] != 0).then_some(fault),
             data_end,
-            pdu_length: header.pdu_length(data_end),
+            pdu_length: header.behind(data_end),
         })
     }
 

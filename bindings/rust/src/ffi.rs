@@ -7,83 +7,78 @@
 use crate::{Ack, Eof, Header, Metadata, Missing, Only, Pair, PlannedNak, Refusal};
 use core::mem::MaybeUninit;
 
-// How many numbers each has.
 pub(crate) const ANSWER_LEN: usize = 24;
-const SHAPE_LEN: usize = 10;
-const IDS_LEN: usize = 3;
 pub(crate) const WINDOW_LEN: usize = 2048;
-pub(crate) const OWED_LEN: usize = 516;
 pub(crate) const MOST_OWED: usize = 256;
-// A place of a log's state.
+pub(crate) const OWED_LEN: usize = 516;
 pub(crate) const OWED_COUNT: usize = 512;
 pub(crate) type Answer = [u64; ANSWER_LEN];
 type Answered = Result<Answer, Refusal>;
 
-// The places of an answer.
-const ANSWER_NUMBER: usize = 0;
-const ANSWER_FIRST: usize = 1;
-const ANSWER_SECOND: usize = 2;
-pub(crate) const ANSWER_VALUE: usize = 1;
-pub(crate) const ANSWER_PDU_TYPE: usize = 1;
-pub(crate) const ANSWER_DIRECTION: usize = 2;
-pub(crate) const ANSWER_MODE: usize = 3;
-pub(crate) const ANSWER_CRC: usize = 4;
-pub(crate) const ANSWER_LARGE: usize = 5;
-pub(crate) const ANSWER_SEGMENTATION_CONTROL: usize = 6;
-pub(crate) const ANSWER_SEGMENT_METADATA: usize = 7;
-pub(crate) const ANSWER_DATA_LENGTH: usize = 8;
-pub(crate) const ANSWER_SOURCE_WIDTH: usize = 9;
-pub(crate) const ANSWER_SOURCE: usize = 10;
-pub(crate) const ANSWER_SEQUENCE_WIDTH: usize = 11;
-pub(crate) const ANSWER_SEQUENCE: usize = 12;
-pub(crate) const ANSWER_DESTINATION: usize = 14;
-pub(crate) const ANSWER_HEADER_LENGTH: usize = 15;
-pub(crate) const ANSWER_PDU_LENGTH: usize = 15;
-pub(crate) const ANSWER_NAK_SCOPE_START: usize = 15;
-pub(crate) const ANSWER_NAK_SCOPE_END: usize = 16;
-pub(crate) const ANSWER_NAK_AREA_START: usize = 17;
-pub(crate) const ANSWER_NAK_DATA_END: usize = 18;
-pub(crate) const ANSWER_NAK_PAIRS: usize = 19;
-pub(crate) const ANSWER_EOF_CONDITION: usize = 15;
-pub(crate) const ANSWER_EOF_FILE_CHECKSUM: usize = 16;
-pub(crate) const ANSWER_EOF_FILE_SIZE: usize = 17;
-pub(crate) const ANSWER_EOF_FAULT: usize = 18;
-pub(crate) const ANSWER_EOF_FAULT_WIDTH: usize = 19;
-pub(crate) const ANSWER_EOF_FAULT_VALUE: usize = 20;
-pub(crate) const ANSWER_EOF_DATA_END: usize = 21;
-pub(crate) const ANSWER_ACK_DIRECTIVE: usize = 15;
-pub(crate) const ANSWER_ACK_CONDITION: usize = 16;
-pub(crate) const ANSWER_ACK_STATUS: usize = 17;
-pub(crate) const ANSWER_ACK_DATA_END: usize = 18;
-pub(crate) const ANSWER_METADATA_CLOSURE: usize = 15;
-pub(crate) const ANSWER_METADATA_CHECKSUM_TYPE: usize = 16;
-pub(crate) const ANSWER_METADATA_FILE_SIZE: usize = 17;
-pub(crate) const ANSWER_METADATA_SOURCE_NAME_START: usize = 18;
-pub(crate) const ANSWER_METADATA_SOURCE_NAME_END: usize = 19;
-pub(crate) const ANSWER_METADATA_DESTINATION_NAME_START: usize = 20;
-pub(crate) const ANSWER_METADATA_DESTINATION_NAME_END: usize = 21;
-pub(crate) const ANSWER_METADATA_OPTION_AREA_START: usize = 22;
-pub(crate) const ANSWER_METADATA_DATA_END: usize = 23;
-pub(crate) const ANSWER_OPTION_TYPE: usize = 1;
-pub(crate) const ANSWER_OPTION_VALUE_START: usize = 2;
-pub(crate) const ANSWER_OPTION_VALUE_END: usize = 3;
-pub(crate) const ANSWER_OPTION_NEXT: usize = 4;
-pub(crate) const ANSWER_DIFFER_METADATA_1: usize = 1;
-pub(crate) const ANSWER_DIFFER_METADATA_2: usize = 2;
-pub(crate) const ANSWER_DIFFER_RANGES: usize = 3;
-pub(crate) const ANSWER_RESERVED_PAIRS: usize = 15;
-pub(crate) const ANSWER_RESERVED_AREA_START: usize = 16;
-pub(crate) const ANSWER_RESERVED_DATA_END: usize = 17;
-pub(crate) const ANSWER_RESERVED_PDU_LENGTH: usize = 18;
-const ANSWER_OWED_AT: usize = 3;
-pub(crate) const ANSWER_PLAN_REQUESTS: usize = 1;
-pub(crate) const ANSWER_PLAN_NAKS: usize = 2;
+const NUMBER: usize = 0;
+const FIRST: usize = 1;
+const SECOND: usize = 2;
+pub(crate) const VALUE: usize = 1;
+pub(crate) const TYPE: usize = 1;
+pub(crate) const DIRECTION: usize = 2;
+pub(crate) const MODE: usize = 3;
+pub(crate) const CRC: usize = 4;
+pub(crate) const LARGE: usize = 5;
+pub(crate) const CONTROL: usize = 6;
+pub(crate) const METADATA: usize = 7;
+pub(crate) const DATA_LENGTH: usize = 8;
+pub(crate) const SOURCE_WIDTH: usize = 9;
+pub(crate) const SOURCE: usize = 10;
+pub(crate) const SEQUENCE_WIDTH: usize = 11;
+pub(crate) const SEQUENCE: usize = 12;
+pub(crate) const DESTINATION: usize = 14;
+pub(crate) const HEADER_LENGTH: usize = 15;
+pub(crate) const WRITTEN: usize = 15;
+pub(crate) const NAK_START: usize = 15;
+pub(crate) const NAK_END: usize = 16;
+pub(crate) const NAK_AREA: usize = 17;
+pub(crate) const NAK_STOP: usize = 18;
+pub(crate) const NAK_PAIRS: usize = 19;
+pub(crate) const RESERVED_PAIRS: usize = 15;
+pub(crate) const RESERVED_AREA: usize = 16;
+pub(crate) const RESERVED_STOP: usize = 17;
+pub(crate) const RESERVED_LENGTH: usize = 18;
+pub(crate) const EOF_CONDITION: usize = 15;
+pub(crate) const EOF_FILE_CHECKSUM: usize = 16;
+pub(crate) const EOF_FILE_SIZE: usize = 17;
+pub(crate) const EOF_FAULT: usize = 18;
+pub(crate) const EOF_FAULT_WIDTH: usize = 19;
+pub(crate) const EOF_FAULT_VALUE: usize = 20;
+pub(crate) const EOF_STOP: usize = 21;
+pub(crate) const ACK_DIRECTIVE: usize = 15;
+pub(crate) const ACK_CONDITION: usize = 16;
+pub(crate) const ACK_STATUS: usize = 17;
+pub(crate) const ACK_STOP: usize = 18;
+pub(crate) const METADATA_CLOSURE: usize = 15;
+pub(crate) const METADATA_CHECKSUM_TYPE: usize = 16;
+pub(crate) const METADATA_FILE_SIZE: usize = 17;
+// Where a part starts; where it stops stands behind it.
+pub(crate) const METADATA_SOURCE: usize = 18;
+pub(crate) const METADATA_DESTINATION: usize = 20;
+pub(crate) const METADATA_OPTIONS: usize = 22;
+pub(crate) const METADATA_STOP: usize = 23;
+pub(crate) const OPTION_TYPE: usize = 1;
+pub(crate) const OPTION_START: usize = 2;
+pub(crate) const OPTION_STOP: usize = 3;
+pub(crate) const OPTION_NEXT: usize = 4;
+pub(crate) const DIFFER_METADATA_1: usize = 1;
+pub(crate) const DIFFER_METADATA_2: usize = 2;
+pub(crate) const DIFFER_RANGES: usize = 3;
+const OWED_AT: usize = 3;
+
+pub(crate) const PLAN_REQUESTS: usize = 1;
+pub(crate) const PLAN_NAKS: usize = 2;
 
 mod raw {
-    use super::{Answer, IDS_LEN, OWED_LEN, SHAPE_LEN, WINDOW_LEN};
+    use super::Answer;
 
-    type Shape = *const [u8; SHAPE_LEN];
-    type Ids = *const [u64; IDS_LEN];
+    type Shape = *const [u8; 10];
+    type Ids = *const [u64; 3];
     type Into = *mut Answer;
 
     #[rustfmt::skip]
@@ -96,41 +91,37 @@ mod raw {
         pub fn cfdp_nak_read(bytes: *const u8, len: usize, answer: Into);
         pub fn cfdp_nak_pair(area: *const u8, len: usize, large: bool, index: usize, pair: *mut [u64; 2]) -> bool;
         pub fn cfdp_nak_pairs(area: *const u8, len: usize, large: bool, numbers: *mut u64, room: usize) -> usize;
-        pub fn cfdp_receive(window: *mut [u8; WINDOW_LEN], filled: *mut usize, fragment: *const u8, len: usize, answer: Into) -> usize;
-        pub fn cfdp_nak_write(shape: Shape, ids: Ids, scope_start: u64, scope_end: u64, buf: *mut u8, len: usize, answer: Into);
-        pub fn cfdp_nak_write_normal(shape: Shape, ids: Ids, scope_start: u64, scope_end: u64, numbers: *const u32, count: usize, buf: *mut u8, len: usize, answer: Into);
-        pub fn cfdp_nak_write_large(shape: Shape, ids: Ids, scope_start: u64, scope_end: u64, numbers: *const u64, count: usize, buf: *mut u8, len: usize, answer: Into);
+        pub fn cfdp_receive(window: *mut [u8; super::WINDOW_LEN], filled: *mut usize, fragment: *const u8, len: usize, answer: Into) -> usize;
+        pub fn cfdp_nak_write(shape: Shape, ids: Ids, start: u64, end: u64, buf: *mut u8, len: usize, answer: Into);
+        pub fn cfdp_nak_write_normal(shape: Shape, ids: Ids, start: u64, end: u64, numbers: *const u32, count: usize, buf: *mut u8, len: usize, answer: Into);
+        pub fn cfdp_nak_write_large(shape: Shape, ids: Ids, start: u64, end: u64, numbers: *const u64, count: usize, buf: *mut u8, len: usize, answer: Into);
         pub fn cfdp_nak_reserve(shape: Shape, ids: Ids, pairs: usize, buf: *const u8, len: usize, answer: Into);
-        pub fn cfdp_nak_finish(shape: Shape, ids: Ids, pairs: usize, scope_start: u64, scope_end: u64, buf: *mut u8, len: usize, answer: Into);
+        pub fn cfdp_nak_finish(shape: Shape, ids: Ids, pairs: usize, start: u64, end: u64, buf: *mut u8, len: usize, answer: Into);
         pub fn cfdp_nak_most(shape: Shape, ids: Ids, packet: usize, answer: Into);
-        pub fn cfdp_nak_compare(bytes: *const u8, len: usize, shape: Shape, ids: Ids, scope_start: u64, scope_end: u64, answer: Into);
-        pub fn cfdp_nak_compare_normal(bytes: *const u8, len: usize, shape: Shape, ids: Ids, scope_start: u64, scope_end: u64, numbers: *const u32, count: usize, answer: Into);
-        pub fn cfdp_nak_compare_large(bytes: *const u8, len: usize, shape: Shape, ids: Ids, scope_start: u64, scope_end: u64, numbers: *const u64, count: usize, answer: Into);
+        pub fn cfdp_nak_compare(bytes: *const u8, len: usize, shape: Shape, ids: Ids, start: u64, end: u64, answer: Into);
+        pub fn cfdp_nak_compare_normal(bytes: *const u8, len: usize, shape: Shape, ids: Ids, start: u64, end: u64, numbers: *const u32, count: usize, answer: Into);
+        pub fn cfdp_nak_compare_large(bytes: *const u8, len: usize, shape: Shape, ids: Ids, start: u64, end: u64, numbers: *const u64, count: usize, answer: Into);
         pub fn cfdp_eof_read(bytes: *const u8, len: usize, answer: Into);
         pub fn cfdp_eof_write(shape: Shape, ids: Ids, condition: u8, file_checksum: u32, file_size: u64, fault: bool, fault_width: u8, fault_value: u64, buf: *mut u8, len: usize, answer: Into);
         pub fn cfdp_ack_read(bytes: *const u8, len: usize, answer: Into);
         pub fn cfdp_ack_write(shape: Shape, ids: Ids, directive: u8, condition: u8, status: u8, buf: *mut u8, len: usize, answer: Into);
         pub fn cfdp_metadata_read(bytes: *const u8, len: usize, answer: Into);
         pub fn cfdp_metadata_option(area: *const u8, len: usize, at: usize, answer: Into);
-        pub fn cfdp_metadata_write(shape: Shape, ids: Ids, closure: bool, checksum_type: u8, file_size: u64, source_name: *const u8, source_name_len: usize, destination_name: *const u8, destination_name_len: usize, option_area: *const u8, option_area_len: usize, buf: *mut u8, len: usize, answer: Into);
-        pub fn cfdp_owed_entry(bytes: *const u8, len: usize, at: usize, state: *mut [u64; OWED_LEN], answer: Into);
-        pub fn cfdp_owed_run(log: *const u8, len: usize, from: usize, state: *mut [u64; OWED_LEN], answer: Into);
-        pub fn cfdp_plan(shape: Shape, ids: Ids, packet: usize, received: *const u64, received_len: usize, scope_start: u64, scope_end: u64, requests: *mut u64, requests_len: usize, naks: *mut u64, naks_len: usize, answer: Into);
-        pub fn cfdp_plan_check(shape: Shape, ids: Ids, packet: usize, received: *const u64, received_len: usize, scope_start: u64, scope_end: u64, requests: *const u64, requests_len: usize, naks: *const u64, naks_len: usize, answer: Into);
+        pub fn cfdp_metadata_write(shape: Shape, ids: Ids, closure: bool, checksum_type: u8, file_size: u64, source: *const u8, source_len: usize, destination: *const u8, destination_len: usize, options: *const u8, options_len: usize, buf: *mut u8, len: usize, answer: Into);
+        pub fn cfdp_owed_entry(bytes: *const u8, len: usize, at: usize, state: *mut [u64; super::OWED_LEN], answer: Into);
+        pub fn cfdp_owed_run(log: *const u8, len: usize, from: usize, state: *mut [u64; super::OWED_LEN], answer: Into);
+        pub fn cfdp_plan(shape: Shape, ids: Ids, packet: usize, received: *const u64, received_len: usize, start: u64, end: u64, requests: *mut u64, requests_len: usize, naks: *mut u64, naks_len: usize, answer: Into);
+        pub fn cfdp_plan_check(shape: Shape, ids: Ids, packet: usize, received: *const u64, received_len: usize, start: u64, end: u64, requests: *const u64, requests_len: usize, naks: *const u64, naks_len: usize, answer: Into);
         pub fn cfdp_differ(first: *const u8, first_len: usize, second: *const u8, second_len: usize, ranges: *mut u64, ranges_len: usize, answer: Into);
     }
 }
 
-/// The refusal, if any.
+/// Why an answer is none.
 #[inline(always)]
-fn refusal_of(answer: &Answer) -> Result<(), Refusal> {
-    match answer[ANSWER_NUMBER] {
+fn said(answer: &Answer) -> Result<(), Refusal> {
+    match answer[NUMBER] {
         0 => Ok(()),
-        number => Err(Refusal::from_numbers(
-            number,
-            answer[ANSWER_FIRST],
-            answer[ANSWER_SECOND],
-        )),
+        number => Err(Refusal::from_numbers(number, answer[FIRST], answer[SECOND])),
     }
 }
 
@@ -141,12 +132,12 @@ fn answered(call: impl FnOnce(*mut Answer)) -> Answered {
     call(answer.as_mut_ptr());
     // Every call writes all of its answer.
     let answer: Answer = unsafe { answer.assume_init() };
-    refusal_of(&answer).map(|()| answer)
+    said(&answer).map(|()| answer)
 }
 
 /// A header as the library takes it.
 #[inline(always)]
-fn numbers(header: &Header) -> ([u8; SHAPE_LEN], [u64; IDS_LEN]) {
+fn numbers(header: &Header) -> ([u8; 10], [u64; 3]) {
     let shape = [
         header.file_data as u8,
         header.towards_sender as u8,
@@ -449,21 +440,25 @@ pub(crate) fn metadata_option(area: &[u8], at: usize) -> Answered {
 
 pub(crate) fn metadata_write(metadata: &Metadata, buf: &mut [u8]) -> Answered {
     let (shape, ids) = numbers(&metadata.header);
-    let (source_name, destination_name) = (metadata.source_name, metadata.destination_name);
-    let option_area = metadata.option_area;
+    let (closure, kind, size) = (metadata.closure, metadata.checksum_type, metadata.file_size);
+    let (from, to, options) = (
+        metadata.source_name,
+        metadata.destination_name,
+        metadata.option_area,
+    );
     answered(|answer| unsafe {
         raw::cfdp_metadata_write(
             &shape,
             &ids,
-            metadata.closure,
-            metadata.checksum_type,
-            metadata.file_size,
-            source_name.as_ptr(),
-            source_name.len(),
-            destination_name.as_ptr(),
-            destination_name.len(),
-            option_area.as_ptr(),
-            option_area.len(),
+            closure,
+            kind,
+            size,
+            from.as_ptr(),
+            from.len(),
+            to.as_ptr(),
+            to.len(),
+            options.as_ptr(),
+            options.len(),
             buf.as_mut_ptr(),
             buf.len(),
             answer,
@@ -485,7 +480,7 @@ pub(crate) fn owed_run(
 ) -> (usize, Result<(), Refusal>) {
     let mut answer = [0; ANSWER_LEN];
     unsafe { raw::cfdp_owed_run(log.as_ptr(), log.len(), from, state, &mut answer) };
-    (answer[ANSWER_OWED_AT] as usize, refusal_of(&answer))
+    (answer[OWED_AT] as usize, said(&answer))
 }
 
 pub(crate) fn plan(missing: &Missing, requests: &mut [Pair], naks: &mut [PlannedNak]) -> Answered {

@@ -2,11 +2,11 @@
 use crate::ffi::{self, Answer};
 use crate::Refusal;
 
-/// An entity's number, not a transaction's.
+/// The number of an entity; it is none of a transaction.
 #[derive(Clone, Copy, Debug, Default, PartialEq, Eq, PartialOrd, Ord, Hash)]
 pub struct EntityId(pub u64);
 
-/// A transaction's number among those of its source, not an entity's.
+/// The number of a transaction of its source; it is none of an entity.
 #[derive(Clone, Copy, Debug, Default, PartialEq, Eq, PartialOrd, Ord, Hash)]
 pub struct TransactionSeqNum(pub u64);
 
@@ -31,7 +31,7 @@ pub struct Header {
     pub entity_width: u8,
     /// 1, 2, 4 or 8 bytes, of the sequence number.
     pub sequence_width: u8,
-    /// Bytes of data, d; worked out for a PDU that is written.
+    /// Bytes of data; worked out for a PDU that is written.
     pub data_length: u16,
     /// The entity that sends the file.
     pub source: EntityId,
@@ -44,36 +44,36 @@ pub struct Header {
 /// What was written: the header as it stands in the PDU, and how many bytes.
 #[derive(Clone, Copy, Debug, PartialEq, Eq, Hash)]
 pub struct Written {
-    /// With `towards_sender`, `data_length` and `large` as they were worked out.
+    /// With direction, length and file flag as they were worked out.
     pub header: Header,
     /// How many bytes, P.
-    pub pdu_length: usize,
+    pub length: usize,
 }
 
 impl Header {
     #[inline]
     pub(crate) fn of(answer: &Answer) -> Header {
         Header {
-            file_data: answer[ffi::ANSWER_PDU_TYPE] != 0,
-            towards_sender: answer[ffi::ANSWER_DIRECTION] != 0,
-            unacknowledged: answer[ffi::ANSWER_MODE] != 0,
-            crc: answer[ffi::ANSWER_CRC] != 0,
-            large: answer[ffi::ANSWER_LARGE] != 0,
-            segmentation_control: answer[ffi::ANSWER_SEGMENTATION_CONTROL] != 0,
-            segment_metadata: answer[ffi::ANSWER_SEGMENT_METADATA] != 0,
-            data_length: answer[ffi::ANSWER_DATA_LENGTH] as u16,
-            entity_width: answer[ffi::ANSWER_SOURCE_WIDTH] as u8,
-            source: EntityId(answer[ffi::ANSWER_SOURCE]),
-            sequence_width: answer[ffi::ANSWER_SEQUENCE_WIDTH] as u8,
-            sequence: TransactionSeqNum(answer[ffi::ANSWER_SEQUENCE]),
-            destination: EntityId(answer[ffi::ANSWER_DESTINATION]),
+            file_data: answer[ffi::TYPE] != 0,
+            towards_sender: answer[ffi::DIRECTION] != 0,
+            unacknowledged: answer[ffi::MODE] != 0,
+            crc: answer[ffi::CRC] != 0,
+            large: answer[ffi::LARGE] != 0,
+            segmentation_control: answer[ffi::CONTROL] != 0,
+            segment_metadata: answer[ffi::METADATA] != 0,
+            data_length: answer[ffi::DATA_LENGTH] as u16,
+            entity_width: answer[ffi::SOURCE_WIDTH] as u8,
+            source: EntityId(answer[ffi::SOURCE]),
+            sequence_width: answer[ffi::SEQUENCE_WIDTH] as u8,
+            sequence: TransactionSeqNum(answer[ffi::SEQUENCE]),
+            destination: EntityId(answer[ffi::DESTINATION]),
         }
     }
 
     /// Reads a header at the front of the bytes: the header, and the length of its PDU, P.
     pub fn read(bytes: &[u8]) -> Result<(Header, usize), Refusal> {
         let answer = ffi::header_read(bytes)?;
-        let pdu_length = answer[ffi::ANSWER_HEADER_LENGTH] + answer[ffi::ANSWER_DATA_LENGTH];
+        let pdu_length = answer[ffi::HEADER_LENGTH] + answer[ffi::DATA_LENGTH];
         Ok((Header::of(&answer), pdu_length as usize))
     }
 
@@ -82,18 +82,18 @@ impl Header {
         ffi::header_build(self).map(|_| ())
     }
 
-    /// Writes the header, with its own `data_length`: how many bytes, h.
+    /// Writes the header, with its own `data_length`: how many bytes.
     pub fn write(&self, buf: &mut [u8]) -> Result<usize, Refusal> {
-        Ok(ffi::header_write(self, buf)?[ffi::ANSWER_VALUE] as usize)
+        Ok(ffi::header_write(self, buf)?[ffi::VALUE] as usize)
     }
 
-    /// Whether the header's whole PDU is there, and its checksum right: where its data ends, E.
+    /// Whether the header's whole PDU is there, and its checksum right: where its data stops, E.
     pub fn verify(&self, bytes: &[u8]) -> Result<usize, Refusal> {
-        Ok(ffi::header_verify(self, bytes)?[ffi::ANSWER_VALUE] as usize)
+        Ok(ffi::header_verify(self, bytes)?[ffi::VALUE] as usize)
     }
 
-    /// P of a PDU whose data ends at E: the checksum stands between.
-    pub(crate) fn pdu_length(&self, data_end: usize) -> usize {
+    /// P of a PDU whose data stops at E: the checksum stands between.
+    pub(crate) fn behind(&self, data_end: usize) -> usize {
         data_end + if self.crc { 2 } else { 0 }
     }
 }
@@ -103,7 +103,7 @@ impl Written {
     pub(crate) fn of(answer: &Answer) -> Written {
         Written {
             header: Header::of(answer),
-            pdu_length: answer[ffi::ANSWER_PDU_LENGTH] as usize,
+            length: answer[ffi::WRITTEN] as usize,
         }
     }
 }

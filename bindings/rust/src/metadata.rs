@@ -5,7 +5,7 @@ use crate::{Header, Refusal, Written};
 /// A Metadata PDU that was read or is to be written.
 #[derive(Clone, Copy, Debug, Default, PartialEq, Eq)]
 pub struct Metadata<'a> {
-    /// As it stands in the bytes; of a PDU that is to be written, `towards_sender` and `data_length` are worked out.
+    /// As it stands in the bytes; of a PDU that is to be written, direction and length are worked out.
     pub header: Header,
     /// Whether the sender asks for a Finished PDU.
     pub closure: bool,
@@ -19,7 +19,7 @@ pub struct Metadata<'a> {
     pub destination_name: &'a [u8],
     /// The bytes of the options: type, length and value of each.
     pub option_area: &'a [u8],
-    /// E, where the data ends; not looked at when it is written.
+    /// E, where the data stops; not looked at when it is written.
     pub data_end: usize,
     /// P, where the next PDU starts; likewise.
     pub pdu_length: usize,
@@ -30,27 +30,18 @@ impl<'a> Metadata<'a> {
     pub fn read(bytes: &'a [u8]) -> Result<Metadata<'a>, Refusal> {
         let answer = ffi::metadata_read(bytes)?;
         let header = Header::of(&answer);
-        let part = |start, end| slice(bytes, answer[start], answer[end]);
-        let data_end = answer[ffi::ANSWER_METADATA_DATA_END] as usize;
+        let part = |start: usize| &bytes[answer[start] as usize..answer[start + 1] as usize];
+        let data_end = answer[ffi::METADATA_STOP] as usize;
         Ok(Metadata {
             header,
-            closure: answer[ffi::ANSWER_METADATA_CLOSURE] != 0,
-            checksum_type: answer[ffi::ANSWER_METADATA_CHECKSUM_TYPE] as u8,
-            file_size: answer[ffi::ANSWER_METADATA_FILE_SIZE],
-            source_name: part(
-                ffi::ANSWER_METADATA_SOURCE_NAME_START,
-                ffi::ANSWER_METADATA_SOURCE_NAME_END,
-            ),
-            destination_name: part(
-                ffi::ANSWER_METADATA_DESTINATION_NAME_START,
-                ffi::ANSWER_METADATA_DESTINATION_NAME_END,
-            ),
-            option_area: part(
-                ffi::ANSWER_METADATA_OPTION_AREA_START,
-                ffi::ANSWER_METADATA_DATA_END,
-            ),
+            closure: answer[ffi::METADATA_CLOSURE] != 0,
+            checksum_type: answer[ffi::METADATA_CHECKSUM_TYPE] as u8,
+            file_size: answer[ffi::METADATA_FILE_SIZE],
+            source_name: part(ffi::METADATA_SOURCE),
+            destination_name: part(ffi::METADATA_DESTINATION),
+            option_area: part(ffi::METADATA_OPTIONS),
             data_end,
-            pdu_length: header.pdu_length(data_end),
+            pdu_length: header.behind(data_end),
         })
     }
 
@@ -69,7 +60,7 @@ impl<'a> Metadata<'a> {
 #[derive(Clone, Copy, Debug, PartialEq, Eq)]
 #[allow(missing_docs)]
 pub struct MetadataOption<'a> {
-    pub option_type: u8,
+    pub kind: u8,
     pub value: &'a [u8],
 }
 
@@ -92,18 +83,15 @@ impl<'a> Iterator for Options<'a> {
 
     fn next(&mut self) -> Option<Self::Item> {
         let answer = ffi::metadata_option(self.area, self.at);
-        let next = answer.map_or(0, |answer| answer[ffi::ANSWER_OPTION_NEXT] as usize);
-        // At the end there is no next place, and after a cut option nothing.
+        let next = answer.map_or(0, |answer| answer[ffi::OPTION_NEXT] as usize);
+        // At the end there is no next place, and behind a cut option nothing.
         self.at = if next == 0 { self.area.len() } else { next };
         match answer {
             Ok(_) if next == 0 => None,
             Ok(answer) => Some(Ok(MetadataOption {
-                option_type: answer[ffi::ANSWER_OPTION_TYPE] as u8,
-                value: slice(
-                    self.area,
-                    answer[ffi::ANSWER_OPTION_VALUE_START],
-                    answer[ffi::ANSWER_OPTION_VALUE_END],
-                ),
+                kind: answer[ffi::OPTION_TYPE] as u8,
+                value: &self.area
+                    [answer[ffi::OPTION_START] as usize..answer[ffi::OPTION_STOP] as usize],
             })),
             Err(refusal) => Some(Err(refusal)),
         }
@@ -111,8 +99,3 @@ impl<'a> Iterator for Options<'a> {
 }
 
 impl core::iter::FusedIterator for Options<'_> {}
-
-/// The bytes from one offset up to another.
-fn slice(bytes: &[u8], start: u64, end: u64) -> &[u8] {
-    &bytes[start as usize..end as usize]
-}

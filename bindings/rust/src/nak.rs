@@ -2,7 +2,7 @@
 use crate::ffi::{self, Answer};
 use crate::{Header, Refusal, Written};
 
-/// First byte, and first byte after: a scope, or a request. In a NAK that is written, requests of `u32` are
+/// First byte, and first byte behind: a scope, or a request. In a NAK that is written, requests of `u32` are
 /// normal and those of `u64` large.
 #[derive(Clone, Copy, Debug, Default, PartialEq, Eq, PartialOrd, Ord, Hash)]
 #[repr(C)]
@@ -34,7 +34,7 @@ pub struct Nak<'a> {
     pub area: &'a [u8],
     /// How many whole requests these hold.
     pub count: usize,
-    /// E, where the data ends.
+    /// E, where the data stops.
     pub data_end: usize,
     /// P, where the next PDU starts.
     pub pdu_length: usize,
@@ -52,18 +52,18 @@ impl<'a> Nak<'a> {
     #[inline]
     pub(crate) fn of(answer: &Answer, bytes: &'a [u8]) -> Nak<'a> {
         let header = Header::of(answer);
-        let area_start = answer[ffi::ANSWER_NAK_AREA_START] as usize;
-        let data_end = answer[ffi::ANSWER_NAK_DATA_END] as usize;
+        let area = answer[ffi::NAK_AREA] as usize;
+        let data_end = answer[ffi::NAK_STOP] as usize;
         Nak {
             header,
             scope: Pair {
-                start: answer[ffi::ANSWER_NAK_SCOPE_START],
-                end: answer[ffi::ANSWER_NAK_SCOPE_END],
+                start: answer[ffi::NAK_START],
+                end: answer[ffi::NAK_END],
             },
-            area: &bytes[area_start..data_end],
-            count: answer[ffi::ANSWER_NAK_PAIRS] as usize,
+            area: &bytes[area..data_end],
+            count: answer[ffi::NAK_PAIRS] as usize,
             data_end,
-            pdu_length: header.pdu_length(data_end),
+            pdu_length: header.behind(data_end),
         }
     }
 
@@ -100,8 +100,8 @@ impl<'a> Nak<'a> {
     }
 
     /// How many requests a NAK in a packet of that many bytes holds at most, by the header's large file flag.
-    pub fn most_requests(header: &Header, packet: usize) -> Result<usize, Refusal> {
-        Ok(ffi::nak_most(header, packet)?[ffi::ANSWER_VALUE] as usize)
+    pub fn most(header: &Header, packet: usize) -> Result<usize, Refusal> {
+        Ok(ffi::nak_most(header, packet)?[ffi::VALUE] as usize)
     }
 
     /// Whether the NAK at the front of the bytes is the one that `write` would write.
@@ -111,7 +111,7 @@ impl<'a> Nak<'a> {
             Pairs::Normal(pairs) => ffi::nak_compare_normal(bytes, header, scope, pairs),
             Pairs::Large(pairs) => ffi::nak_compare_large(bytes, header, scope, pairs),
         };
-        answer.map(|answer| answer[ffi::ANSWER_VALUE] != 0)
+        answer.map(|answer| answer[ffi::VALUE] != 0)
     }
 }
 
@@ -148,14 +148,14 @@ impl Iterator for Requests<'_> {
 impl ExactSizeIterator for Requests<'_> {}
 impl core::iter::FusedIterator for Requests<'_> {}
 
-/// Room for the requests of a NAK. Their bytes, big-endian, go from `area_start` up to `data_end` of the buffer.
+/// Room for the requests of a NAK. Their bytes, big-endian, go from `area` up to `stop` of the buffer.
 #[derive(Clone, Copy, Debug, PartialEq, Eq)]
 #[allow(missing_docs)]
 pub struct Reserved {
     pub header: Header,
     pub count: usize,
-    pub area_start: usize,
-    pub data_end: usize,
+    pub area: usize,
+    pub stop: usize,
     /// That the NAK will have.
     pub pdu_length: usize,
 }
@@ -166,10 +166,10 @@ impl Reserved {
         let answer = ffi::nak_reserve(header, count, buf)?;
         Ok(Reserved {
             header: Header::of(&answer),
-            count: answer[ffi::ANSWER_RESERVED_PAIRS] as usize,
-            area_start: answer[ffi::ANSWER_RESERVED_AREA_START] as usize,
-            data_end: answer[ffi::ANSWER_RESERVED_DATA_END] as usize,
-            pdu_length: answer[ffi::ANSWER_RESERVED_PDU_LENGTH] as usize,
+            count: answer[ffi::RESERVED_PAIRS] as usize,
+            area: answer[ffi::RESERVED_AREA] as usize,
+            stop: answer[ffi::RESERVED_STOP] as usize,
+            pdu_length: answer[ffi::RESERVED_LENGTH] as usize,
         })
     }
 

@@ -16,14 +16,14 @@ impl Owed {
         }
     }
 
-    /// Takes the entry at that offset of the log: the offset after it. A refused entry changes nothing.
+    /// Takes the entry at that offset of the log: the offset behind it. A refused entry changes nothing.
     pub fn take(&mut self, log: &[u8], at: usize) -> Result<usize, Refusal> {
         let rest = log.get(at..).unwrap_or_default();
         let answer = ffi::owed_entry(rest, at, &mut self.state)?;
-        Ok(at + answer[ffi::ANSWER_VALUE] as usize)
+        Ok(at + answer[ffi::VALUE] as usize)
     }
 
-    /// Takes the entries from that offset on, until the log's end or a refusal: the offset where it stands, after the
+    /// Takes the entries from that offset on, until the log's end or a refusal: the offset where it stands, behind the
     /// last entry that was taken, and why no further.
     pub fn run(&mut self, log: &[u8], from: usize) -> (usize, Result<(), Refusal>) {
         ffi::owed_run(log, from, &mut self.state)

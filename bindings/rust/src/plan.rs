@@ -37,13 +37,13 @@ impl Missing<'_> {
     pub fn plan(&self, requests: &mut [Pair], naks: &mut [PlannedNak]) -> Result<Planned, Refusal> {
         let answer = ffi::plan(self, requests, naks)?;
         Ok(Planned {
-            requests: answer[ffi::ANSWER_PLAN_REQUESTS] as usize,
-            naks: answer[ffi::ANSWER_PLAN_NAKS] as usize,
+            requests: answer[ffi::PLAN_REQUESTS] as usize,
+            naks: answer[ffi::PLAN_NAKS] as usize,
         })
     }
 
     /// Whether a plan, of anyone's, asks for exactly what is missing, in NAKs that fit.
     pub fn accepts(&self, requests: &[Pair], naks: &[PlannedNak]) -> Result<bool, Refusal> {
-        Ok(ffi::plan_check(self, requests, naks)?[ffi::ANSWER_VALUE] != 0)
+        Ok(ffi::plan_check(self, requests, naks)?[ffi::VALUE] != 0)
     }
 }

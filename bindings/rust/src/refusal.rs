@@ -17,8 +17,8 @@ pub enum Refusal {
     InvalidTransactionSeqNumLen(u8),
     /// 5: the PDU's last 16 bits.
     Checksum(u16),
-    /// 6: where the declared data ends, and where it would have to.
-    DataFieldTooSmall { data_end: usize, expected: usize },
+    /// 6: where the declared data stops, and where it would have to.
+    DataFieldTooSmall { stop: usize, expected: usize },
     /// 7: its code.
     InvalidDirectiveType(u8),
     /// 8: its code, which says whose reader to ask.
@@ -27,7 +27,7 @@ pub enum Refusal {
     InvalidStartOrEndOfScope { start: u64, end: u64 },
     /// 10
     TooManySegmentRequests { found: usize, most: usize },
-    /// 11: so many bytes the buffer has, and so many are needed.
+    /// 11: so many bytes are lent, and so many are needed.
     ToSliceTooSmall { found: usize, expected: usize },
     /// 12
     OddCount(usize),
@@ -42,7 +42,7 @@ pub enum Refusal {
     /// 17
     InvalidAckedDirectiveCode,
     /// 18 of a comparison: which NAK, and which of its pairs, each from 1.
-    PairOutOfOrder { nak: u8, pair: usize },
+    PairOutOfOrder { file: u8, pair: usize },
     /// 18 of a log: the offset of the entry.
     EntryOutOfOrder(usize),
     /// 19
@@ -130,7 +130,7 @@ impl Refusal {
             4 => InvalidTransactionSeqNumLen(first as u8),
             5 => Checksum(first as u16),
             6 => DataFieldTooSmall {
-                data_end: one,
+                stop: one,
                 expected: two,
             },
             7 => InvalidDirectiveType(first as u8),
@@ -162,7 +162,7 @@ impl Refusal {
             // Pairs are counted from 1, so that 0 is no pair's number.
             18 if second == 0 => EntryOutOfOrder(one),
             18 => PairOutOfOrder {
-                nak: first as u8,
+                file: first as u8,
                 pair: two,
             },
             19 => TransactionsDiffer,
@@ -192,7 +192,7 @@ impl Refusal {
             InvalidEntityLen(width) => (3, width.into(), 0),
             InvalidTransactionSeqNumLen(width) => (4, width.into(), 0),
             Checksum(last) => (5, last.into(), 0),
-            DataFieldTooSmall { data_end, expected } => (6, data_end as u64, expected as u64),
+            DataFieldTooSmall { stop, expected } => (6, stop as u64, expected as u64),
             InvalidDirectiveType(code) => (7, code.into(), 0),
             WrongDirectiveType(code) => (8, code.into(), 0),
             InvalidStartOrEndOfScope { start, end } => (9, start, end),
@@ -207,7 +207,7 @@ impl Refusal {
             TooSmallForPduHeader => (15, 0, 0),
             InvalidConditionCode => (16, 0, 0),
             InvalidAckedDirectiveCode => (17, 0, 0),
-            PairOutOfOrder { nak, pair } => (18, nak.into(), pair as u64),
+            PairOutOfOrder { file, pair } => (18, file.into(), pair as u64),
             EntryOutOfOrder(at) => (18, at as u64, 0),
             TransactionsDiffer => (19, 0, 0),
             NoRoom => (20, 0, 0),
@@ -250,8 +250,8 @@ impl fmt::Display for Refusal {
             | InvalidDirectiveType(value)
             | WrongDirectiveType(value) => write!(f, ": {value}"),
             Checksum(last) => write!(f, ": the PDU ends in {last:#06x}"),
-            DataFieldTooSmall { data_end, expected } => {
-                write!(f, ": it stops at {data_end}, {expected} is needed")
+            DataFieldTooSmall { stop, expected } => {
+                write!(f, ": it stops at {stop}, {expected} is needed")
             }
             InvalidStartOrEndOfScope { start, end } => write!(f, ": {start} to {end}"),
             TooManySegmentRequests { found, most } => write!(f, ": {found}, at most {most}"),
@@ -261,7 +261,7 @@ impl fmt::Display for Refusal {
                 destination,
             } => write!(f, ": {source} and {destination}"),
             ValueTooLargeForWidth { value, width } => write!(f, ": {value} in {width}"),
-            PairOutOfOrder { nak, pair } => write!(f, ": NAK {nak}, pair {pair}"),
+            PairOutOfOrder { file, pair } => write!(f, ": NAK {file}, pair {pair}"),
             EntryOutOfOrder(at) | FieldCut(at) | InvalidEntry(at) => write!(f, ": at {at}"),
             Unknown(number) => write!(f, ": {number}"),
             _ => Ok(()),

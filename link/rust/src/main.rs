@@ -7,24 +7,21 @@ const ANSWER_LEN: usize = 24;
 type Answer = [u64; ANSWER_LEN];
 
 // The places of an answer that are used here, by the names of `include/cfdp.h`.
-const ANSWER_NUMBER: usize = 0;
-const ANSWER_FIRST: usize = 1;
-const ANSWER_SECOND: usize = 2;
-const ANSWER_VALUE: usize = 1;
-const ANSWER_LARGE: usize = 5;
-const ANSWER_DATA_LENGTH: usize = 8;
-const ANSWER_SOURCE: usize = 10;
-const ANSWER_SEQUENCE: usize = 12;
-const ANSWER_DESTINATION: usize = 14;
-const ANSWER_HEADER_LENGTH: usize = 15;
-const ANSWER_PDU_LENGTH: usize = 15;
-const ANSWER_NAK_SCOPE_START: usize = 15;
-const ANSWER_NAK_SCOPE_END: usize = 16;
-const ANSWER_NAK_AREA_START: usize = 17;
-const ANSWER_NAK_DATA_END: usize = 18;
-const ANSWER_NAK_PAIRS: usize = 19;
-const ANSWER_RESERVED_AREA_START: usize = 16;
-const ANSWER_RESERVED_DATA_END: usize = 17;
+const VALUE: usize = 1;
+const LARGE: usize = 5;
+const DATA_LENGTH: usize = 8;
+const SOURCE: usize = 10;
+const SEQUENCE: usize = 12;
+const DESTINATION: usize = 14;
+const HEADER_LENGTH: usize = 15;
+const WRITTEN: usize = 15;
+const NAK_START: usize = 15;
+const NAK_END: usize = 16;
+const NAK_AREA: usize = 17;
+const NAK_STOP: usize = 18;
+const NAK_PAIRS: usize = 19;
+const RESERVED_AREA: usize = 16;
+const RESERVED_STOP: usize = 17;
 
 // `include/cfdp.h`: a slice is a pointer and a length, an array is a pointer.
 extern "C" {
@@ -41,8 +38,8 @@ extern "C" {
     fn cfdp_nak_write_normal(
         shape: *const [u8; 10],
         ids: *const [u64; 3],
-        scope_start: u64,
-        scope_end: u64,
+        start: u64,
+        end: u64,
         numbers: *const u32,
         count: usize,
         buf: *mut u8,
@@ -61,8 +58,8 @@ extern "C" {
         shape: *const [u8; 10],
         ids: *const [u64; 3],
         pairs: usize,
-        scope_start: u64,
-        scope_end: u64,
+        start: u64,
+        end: u64,
         buf: *mut u8,
         buf_len: usize,
         answer: *mut Answer,
@@ -72,8 +69,8 @@ extern "C" {
         bytes_len: usize,
         shape: *const [u8; 10],
         ids: *const [u64; 3],
-        scope_start: u64,
-        scope_end: u64,
+        start: u64,
+        end: u64,
         numbers: *const u32,
         count: usize,
         answer: *mut Answer,
@@ -113,32 +110,20 @@ fn numbers(answer: &Answer) -> String {
 fn list(bytes: &[u8]) {
     let answer = read(bytes);
     println!("numbers{}", numbers(&answer));
-    if answer[ANSWER_NUMBER] != 0 {
-        println!(
-            "refused {} {} {}",
-            answer[ANSWER_NUMBER], answer[ANSWER_FIRST], answer[ANSWER_SECOND]
-        );
+    if answer[0] != 0 {
+        println!("refused {} {} {}", answer[0], answer[1], answer[2]);
         return;
     }
     println!(
         "nak {} {} {}",
-        answer[ANSWER_SOURCE], answer[ANSWER_SEQUENCE], answer[ANSWER_DESTINATION]
+        answer[SOURCE], answer[SEQUENCE], answer[DESTINATION]
     );
-    println!(
-        "scope {} {}",
-        answer[ANSWER_NAK_SCOPE_START], answer[ANSWER_NAK_SCOPE_END]
-    );
-    let area = &bytes[answer[ANSWER_NAK_AREA_START] as usize..answer[ANSWER_NAK_DATA_END] as usize];
-    for pair in pairs(
-        area,
-        answer[ANSWER_LARGE] != 0,
-        answer[ANSWER_NAK_PAIRS] as usize,
-    )
-    .chunks(2)
-    {
+    println!("scope {} {}", answer[NAK_START], answer[NAK_END]);
+    let area = &bytes[answer[NAK_AREA] as usize..answer[NAK_STOP] as usize];
+    for pair in pairs(area, answer[LARGE] != 0, answer[NAK_PAIRS] as usize).chunks(2) {
         println!("request {} {}", pair[0], pair[1]);
     }
-    println!("end {}", answer[ANSWER_NAK_DATA_END]);
+    println!("end {}", answer[NAK_STOP]);
 }
 
 // N's numbers: flags clear, widths 1; the direction bit is the writer's.
@@ -176,9 +161,8 @@ fn same(buf: &[u8]) -> &'static str {
 fn finish_n(buf: &mut [u8]) {
     let mut place = [0; ANSWER_LEN];
     unsafe { cfdp_nak_reserve(&SHAPE, &IDS, 1, buf.as_ptr(), buf.len(), &mut place) };
-    let area_start = place[ANSWER_RESERVED_AREA_START] as usize;
-    let data_end = place[ANSWER_RESERVED_DATA_END] as usize;
-    buf[area_start..data_end].copy_from_slice(&N[area_start..data_end]);
+    let (area, stop) = (place[RESERVED_AREA] as usize, place[RESERVED_STOP] as usize);
+    buf[area..stop].copy_from_slice(&N[area..stop]);
     let mut answer = [0; ANSWER_LEN];
     unsafe {
         cfdp_nak_finish(
@@ -193,14 +177,14 @@ fn finish_n(buf: &mut [u8]) {
         )
     };
     println!(
-        "reserved {area_start} to {data_end}, finished {}, {}",
-        answer[ANSWER_PDU_LENGTH],
+        "reserved {area} to {stop}, finished {}, {}",
+        answer[WRITTEN],
         same(buf)
     );
 }
 
 // Whether N is the NAK with that end of scope: 1 or 0.
-fn compare_n(scope_end: u64) -> u64 {
+fn compare_n(end: u64) -> u64 {
     let mut answer = [0; ANSWER_LEN];
     unsafe {
         cfdp_nak_compare_normal(
@@ -209,13 +193,13 @@ fn compare_n(scope_end: u64) -> u64 {
             &SHAPE,
             &IDS,
             0,
-            scope_end,
+            end,
             NUMBERS.as_ptr(),
             NUMBERS.len(),
             &mut answer,
         )
     };
-    answer[ANSWER_VALUE]
+    answer[VALUE]
 }
 
 // A stream is framed by its headers: what is refused is passed over like what is accepted.
@@ -225,13 +209,12 @@ fn cut(stream: &[u8]) {
         let rest = &stream[at..];
         let mut answer = [0; ANSWER_LEN];
         unsafe { cfdp_header_read(rest.as_ptr(), rest.len(), &mut answer) };
-        let pdu_length = (answer[ANSWER_HEADER_LENGTH] + answer[ANSWER_DATA_LENGTH]) as usize;
-        if answer[ANSWER_NUMBER] != 0 || rest.len() < pdu_length {
+        let pdu = (answer[HEADER_LENGTH] + answer[DATA_LENGTH]) as usize;
+        if answer[0] != 0 || rest.len() < pdu {
             break;
         }
-        let number = read(&rest[..pdu_length])[ANSWER_NUMBER];
-        println!("at {at}, {pdu_length} bytes: {number}");
-        at += pdu_length;
+        println!("at {at}, {pdu} bytes: {}", read(&rest[..pdu])[0]);
+        at += pdu;
     }
     println!("{} bytes wait", stream.len() - at);
 }
@@ -253,7 +236,7 @@ fn main() {
 
     let mut buf = [0; 24];
     let answer = write_n(&mut buf);
-    println!("written {}, {}", answer[ANSWER_PDU_LENGTH], same(&buf));
+    println!("written {}, {}", answer[WRITTEN], same(&buf));
     finish_n(&mut [0; 24]);
 
     list(&N[..20]);
@@ -266,10 +249,7 @@ fn main() {
     } else {
         "bytes changed"
     };
-    println!(
-        "refused {} {} {}, {words}",
-        answer[ANSWER_NUMBER], answer[ANSWER_FIRST], answer[ANSWER_SECOND]
-    );
+    println!("refused {} {} {}, {words}", answer[0], answer[1], answer[2]);
 
     println!(
         "compared {}, with another end {}",
