@@ -10,12 +10,11 @@ use borrow.Author.Tests.{ne_eqb, eqb-true, not-false}
 use Rattle.std.specs.Prelude.{if◌then◌else◌}
 use Rattle.fields.specs.Answer.{accepted, told, all_of}
 use Rattle.fields.proofs.Judging.{Passed, judged_passed, passed_on, refused_on, told_is_refused}
-use Rattle.header.specs.declared.flags.Direction.TheVariants.{TowardsReceiver, TowardsSender}
 use Rattle.header.specs.Condition.{reserved_condition}
 use Rattle.header.proofs.Conditions.{condition_small}
 use Rattle.ack.specs.declared.status.TransactionStatus.{TransactionStatus}
 use Rattle.ack.specs.declared.status.TransactionStatus.TheVariants.{Undefined, Active, Terminated, Unrecognized}
-use Rattle.ack.specs.Ack.{is_acked, subtype_of, direction_for, status_bits, status_of, not_allowed, code_tests}
+use Rattle.ack.specs.Ack.{is_acked, subtype_of, status_bits, status_of, not_allowed, code_tests}
 
 module _ (c : ℕ) where
   pub acked_eof : c ≡ 4 → accepted tt ≡ all_of (not_allowed c ∷ [])
@@ -29,38 +28,6 @@ module _ (c : ℕ) where
   pub acked_other : (c ≡ 4 → ⊥) → (c ≡ 5 → ⊥) → told (17 ∷ []) ≡ all_of (not_allowed c ∷ [])
   unfolding is_acked
   acked_other n m = rw (told_is_refused 17 _ refl, ne_eqb c 4 n, ne_eqb c 5 m)
-
-  pub subtype_one : c ≡ 5 → (1 ≡ subtype_of c) × (1 ≤ 1)
-  unfolding subtype_of
-  subtype_one e = (rw e, omega arith)
-
-  pub subtype_none : (c ≡ 5 → ⊥) → (0 ≡ subtype_of c) × (0 ≤ 1)
-  unfolding subtype_of
-  subtype_none n = (rw (ne_eqb c 5 n), omega arith)
-
-  pub to_sender : c ≡ 4 → TowardsSender ≡ direction_for c
-  unfolding direction_for
-  to_sender e = rw e
-
-  pub to_receiver : (c ≡ 4 → ⊥) → TowardsReceiver ≡ direction_for c
-  unfolding direction_for
-  to_receiver n = rw (ne_eqb c 4 n)
-
-  pub status_0 : c ≡ 0 → Undefined ≡ status_of c
-  unfolding status_of
-  status_0 e = rw e
-
-  pub status_1 : c ≡ 1 → Active ≡ status_of c
-  unfolding status_of
-  status_1 e = rw e
-
-  pub status_2 : c ≡ 2 → Terminated ≡ status_of c
-  unfolding status_of
-  status_2 e = rw e
-
-  pub status_3 : (c ≡ 0 → ⊥) → (c ≡ 1 → ⊥) → (c ≡ 2 → ⊥) → Unrecognized ≡ status_of c
-  unfolding status_of
-  status_3 a b d = rw (ne_eqb c 0 a, ne_eqb c 1 b, ne_eqb c 2 d)
 
 -- ---- both tests: the condition's refusal, or behind it the directive decides
 
@@ -118,3 +85,7 @@ status_back t n =
     let l = status_small t in
     let e : (n * 16 + status_bits t) % 4 ≡ status_bits t = omega arith in
     ap status_of e ∙ of_bits t
+
+-- ---- what the proofs of these functions cite
+
+pub ruleset for_judge_codes = (refused_condition, acked_decides)

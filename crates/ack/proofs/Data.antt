@@ -12,11 +12,10 @@ use Rattle.fields.specs.Staged.{run}
 use Rattle.fields.proofs.Judging.{Passed, all_passed, judged_passed, refused_on, refused_same, refused_after, passed_after}
 use Rattle.header.specs.declared.PduHeader.{PduHeader}
 use Rattle.header.specs.declared.directive.DirectivePdu.{DirectivePdu}
-use Rattle.header.specs.Flags.{crc_bit}
+use Rattle.header.specs.Flags.{crc_bit, crc_laws}
 use Rattle.header.specs.Header.{header_length, data_end}
 use Rattle.header.specs.Directive.{data_short, reading_own}
 use Rattle.header.specs.Pdu.{directive_tests, pdu_over}
-use Rattle.header.proofs.FlagBits.{crc_bit_lem}
 use Rattle.header.proofs.Verifying.{pdu_sum, end_sum}
 use Rattle.header.proofs.Codes.{known_range}
 use Rattle.header.proofs.Directives.{OwnRead, refused_own, read_own, data_reaches}
@@ -116,7 +115,7 @@ data_stored a at x y s p q =
 
 filled_small : (a : Ack) → (filled a).length < 2 ^ 16
 unfolding filled ack_length
-filled_small a = omega (arith, crc_bit_lem a.header.crc)
+filled_small a = omega (arith, crc_laws.small a.header.crc)
 
 filled_length : (a : Ack) (k : PduHeader) → k ≡ filled a → length (ack_data a) + 2 * crc_bit k.crc ≡ k.length
 unfolding filled
@@ -152,3 +151,7 @@ reads_back a k t good pk ok =
     reads_content k c t ok (filled_length a k pk) (omega arith) (rw pk (filled_small a)) 6 (known_range 6 (omega arith) (omega arith)) (first_is a) read_tests ack_in
     ∙ sym (ack_read k c (data_end k) (header_length k) refl refl there (status_in c) (sym codes) refl)
     ∙ ap accepted (λ i. record { header = k; acked = acked_back a i; condition = condition_back a i; status = status_is a i })
+
+-- ---- what the proofs of these functions cite
+
+pub ruleset for_ack_in = (ack_short, three, ack_refused, ack_read)

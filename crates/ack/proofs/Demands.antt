@@ -1,35 +1,28 @@
 -- The statements of specs/Demands, proved.
 -- Assumes nothing.
+use Rattle.std.specs.Prelude.{Ok, Err}
 use mathlib.Core.Path.{◌≡◌, refl, ap, ◌∙◌}
 use lib.ListN.{length, drop}
+use Rattle.fields.specs.Answer.{answer_of}
 use Rattle.fields.specs.Staged.{run}
-use Rattle.fields.proofs.OneToOne.{answer_back, told_back, one_to_one}
+use Rattle.fields.proofs.OneToOne.{one_answer}
 use Rattle.fields.proofs.Demand3.{code_demand3}
 use Rattle.header.specs.declared.pdu.PduWritten.{PduWritten}
 use Rattle.header.specs.Pdu.{pdu_over}
 use Rattle.header.proofs.Directives.{reader_demand3}
 use Rattle.header.proofs.Pdus.{written_has, memory_has}
-use Rattle.ack.specs.declared.AckResult.{AckResult}
-use Rattle.ack.specs.declared.AckResult.TheVariants.{Ack as Read, Refused}
 use Rattle.ack.specs.Ack.{ack_in}
-use Rattle.ack.specs.Reading.{ack_answer, read_tests, reading_ack}
+use Rattle.ack.specs.Reading.{read_tests, reading_ack}
 use Rattle.ack.specs.Writing.{ack_data, filled, own_tests, writing_ack, ack_memory}
-use Rattle.ack.specs.Demands.{under, WrittenReadsBack, CodeReadsBack, AckDemand3, AckCodeDemand3, OneAckResult}
+use Rattle.ack.specs.Demands.{under, WrittenReadsBack, CodeReadsBack, AckDemand3, AckCodeDemand3}
 use Rattle.ack.proofs.Data.{reads_back}
-
-back : (r : AckResult) → answer_back Read Refused (ack_answer r) ≡ r
-back (Read a) = refl
-back (Refused r) = told_back Read Refused r
-
-pub one_ack_result : OneAckResult
-one_ack_result = one_to_one ack_answer (answer_back Read Refused) back
 
 pub ack_demand3 : AckDemand3
 unfolding reading_ack
 ack_demand3 = reader_demand3 6 read_tests ack_in
 
 pub ack_code_demand3 : AckCodeDemand3
-ack_code_demand3 = code_demand3 (run reading_ack) ack_answer Refused (λ x. refl) 4 ack_demand3 one_ack_result
+ack_code_demand3 = code_demand3 (run reading_ack) answer_of Err (λ x. refl) 4 ack_demand3 (one_answer _)
 
 pub written_reads_back : WrittenReadsBack
 unfolding writing_ack
@@ -42,5 +35,5 @@ pub code_reads_back : CodeReadsBack
 unfolding writing_ack ack_memory
 code_reads_back a s w r p q =
     let m = memory_has (filled a) (own_tests a) (ack_data a) s w p in
-    one_ack_result r (Read (under w.header a))
+    one_answer _ r (Ok (under w.header a))
     (q ∙ ap (run reading_ack) m ∙ written_reads_back a (length s) (drop (length (pdu_over w.header (ack_data a))) s) w p)

@@ -16,7 +16,7 @@ pub const ACK_CODE: u8 = 6;
 pub const ACK_SIZE: usize = 3;
 
 // An ACK: one that was read, or is to be written. The Rust's names stand beside those that differ.
-#[derive(Clone, Copy)]
+#[derive(Clone, Copy, PartialEq, Eq, Debug)]
 pub struct Ack {
     pub header: PduHeader,
     // directive_code_of_acked_pdu
@@ -25,11 +25,4 @@ pub struct Ack {
     pub condition: u8,
     // transaction_status
     pub status: TransactionStatus,
-}
-
-// An ACK, or why there is none.
-#[derive(Clone, Copy)]
-pub enum AckResult {
-    Ack(Ack),
-    Refused(Refusal),
 }

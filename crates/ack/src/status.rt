@@ -2,39 +2,32 @@
 ghost use Rattle.std.specs.Prelude.{◌≡◌, ◌≤◌};
 ghost use Rattle.ack.specs.Ack.{status_bits, status_of};
 
-#[derive(Clone, Copy)]
+// Kept: `from_bits` is no `TryFrom`: it takes any byte and refuses none, and the functions' names are public.
+#[derive(Clone, Copy, PartialEq, Eq, Hash, Debug)]
 pub enum TransactionStatus {
-    Undefined,
-    Active,
-    Terminated,
-    Unrecognized,
+    Undefined = 0,
+    Active = 1,
+    Terminated = 2,
+    Unrecognized = 3,
 }
 
 impl TransactionStatus {
     pub fn bits(self) -> u8
         ensures { (result ≡ status_bits self) × (result ≤ 3) }
     {
-        match self {
-            TransactionStatus::Undefined => 0,
-            TransactionStatus::Active => 1,
-            TransactionStatus::Terminated => 2,
-            TransactionStatus::Unrecognized => 3,
-        }
+        self as u8
     }
 
     // What is none of 0, 1 and 2 is unrecognized.
+    #[tactic(auto, unfolding(crate::specs::Ack::status_of))]
     pub fn from_bits(bits: u8) -> Self
         ensures { result ≡ status_of bits }
     {
-        if bits == 0 {
-            return TransactionStatus::Undefined;
+        match bits {
+            0 => TransactionStatus::Undefined,
+            1 => TransactionStatus::Active,
+            2 => TransactionStatus::Terminated,
+            _ => TransactionStatus::Unrecognized,
         }
-        if bits == 1 {
-            return TransactionStatus::Active;
-        }
-        if bits == 2 {
-            return TransactionStatus::Terminated;
-        }
-        TransactionStatus::Unrecognized
     }
 }

@@ -1,7 +1,8 @@
 // Metadata PDUs, written and read; and what `pdulist` prints of each of the four PDUs, and of each refusal that a reader gives.
-use crate::{N, STDOUT_FILENO, header, left, worked, written};
+use crate::{N, header, left, reading, written};
 use header::LargeFileFlag;
 use metadata::MetadataParams;
+use std::io;
 
 // An EOF, filestore rejection at entity 5.
 const EOF: [u8; 20] = [
@@ -28,132 +29,138 @@ fn params(kind: u8, size: u64) -> MetadataParams {
 }
 
 // Written by the tables of section 5.2.5, and read back.
-pub fn metadatas() {
+pub fn metadatas(rt: &impl Print) -> io::Result<()> {
     let mut buf = [0xEEu8; 29];
     let file = params(3, 9);
-    io::write_all(STDOUT_FILENO, b"5.2.5, writing: ");
     written(
-        b"from a.bin to b.bin",
+        rt,
+        "5.2.5, writing",
+        "from a.bin to b.bin",
         file.write_to_slice(b"a.bin", b"b.bin", &[2, 2, b'a', b'b'], &mut buf),
-    );
-    worked(b"5.2.5, reading", &buf);
-    listing::metadatas::list(&buf);
+    )?;
+    reading(rt, "5.2.5, reading", &buf, listing::metadatas::list)
 }
 
-fn changed(bytes: &[u8]) {
-    worked(b"document 02, reading", bytes);
-    listing::metadatas::list(bytes);
+fn changed(rt: &impl Print, bytes: &[u8]) -> io::Result<()> {
+    reading(rt, "document 02, reading", bytes, listing::metadatas::list)
 }
 
 // The same with one byte changed: a type that the list lacks, a name and an option beyond E.
-pub fn changed_metadatas() {
+pub fn changed_metadatas(rt: &impl Print) -> io::Result<()> {
     let mut bytes = METADATA;
     bytes[8] = 0x0E;
-    changed(&bytes);
+    changed(rt, &bytes)?;
     bytes[8] = 0x43;
     bytes[19] = 10;
-    changed(&bytes);
+    changed(rt, &bytes)?;
     bytes[19] = 5;
     bytes[26] = 3;
-    changed(&bytes);
+    changed(rt, &bytes)
 }
 
-pub fn refused_metadatas() {
+pub fn refused_metadatas(rt: &impl Print) -> io::Result<()> {
     let mut buf = [0xEEu8; 3];
     let long = [b'a'; 256];
     let lacking = params(4, 4294967296);
     let large = params(3, 4294967296);
     let good = params(3, 9);
-    io::write_all(STDOUT_FILENO, b"document 02, writing: ");
     written(
-        b"checksum type 4",
+        rt,
+        "document 02, writing",
+        "checksum type 4",
         lacking.write_to_slice(&long, b"", &[2], &mut buf),
-    );
-    io::write_all(STDOUT_FILENO, b"document 02, writing: ");
+    )?;
     written(
-        b"4,294,967,296 bytes",
+        rt,
+        "document 02, writing",
+        "4,294,967,296 bytes",
         large.write_to_slice(&long, b"", &[2], &mut buf),
-    );
-    io::write_all(STDOUT_FILENO, b"document 02, writing: ");
+    )?;
     written(
-        b"a name of 256 bytes",
+        rt,
+        "document 02, writing",
+        "a name of 256 bytes",
         good.write_to_slice(&long, b"", &[2], &mut buf),
-    );
-    io::write_all(STDOUT_FILENO, b"document 02, writing: ");
+    )?;
     written(
-        b"a cut option",
+        rt,
+        "document 02, writing",
+        "a cut option",
         good.write_to_slice(b"", b"", &[6, 1, 5, 2], &mut buf),
-    );
-    io::write_all(STDOUT_FILENO, b"document 02, writing: ");
-    written(b"no name", good.write_to_slice(b"", b"", b"", &mut buf));
-    left(&buf);
+    )?;
+    written(
+        rt,
+        "document 02, writing",
+        "no name",
+        good.write_to_slice(b"", b"", b"", &mut buf),
+    )?;
+    left(rt, &buf)
 }
 
-fn listed(bytes: &[u8]) {
-    worked(b"pdulist", bytes);
-    listing::pdus::list(bytes);
+fn listed(rt: &impl Print, bytes: &[u8]) -> io::Result<()> {
+    reading(rt, "pdulist", bytes, listing::pdus::list)
 }
 
 // What every reader tests: 1, 2, 3, 4, 5, 6, 21, 7, and 8 for a directive that has no reader here.
-fn refused_first() {
+fn refused_first(rt: &impl Print) -> io::Result<()> {
     let mut bytes = ACK;
-    listed(&bytes[..9]);
+    listed(rt, &bytes[..9])?;
     bytes[0] = 0x08;
-    listed(&bytes);
+    listed(rt, &bytes)?;
     bytes[0] = 0x28;
     bytes[3] = 0x20;
-    listed(&bytes);
+    listed(rt, &bytes)?;
     bytes[3] = 0x02;
-    listed(&bytes);
+    listed(rt, &bytes)?;
     bytes[3] = 0x00;
     bytes[0] = 0x2A;
-    listed(&bytes);
+    listed(rt, &bytes)?;
     bytes[0] = 0x28;
     bytes[2] = 0x01;
-    listed(&bytes);
+    listed(rt, &bytes)?;
     bytes[2] = 0x03;
     bytes[0] = 0x38;
-    listed(&bytes);
+    listed(rt, &bytes)?;
     bytes[0] = 0x28;
     bytes[7] = 0x0A;
-    listed(&bytes);
+    listed(rt, &bytes)?;
     bytes[7] = 0x05;
-    listed(&bytes);
+    listed(rt, &bytes)?;
     bytes[7] = 0x09;
-    listed(&bytes);
+    listed(rt, &bytes)?;
     bytes[7] = 0x0C;
-    listed(&bytes);
+    listed(rt, &bytes)
 }
 
 // What each tests of its own data: 6, 16, 17, 28, 30, 25.
-fn refused_data() {
+fn refused_data(rt: &impl Print) -> io::Result<()> {
     let mut nak = N;
     nak[2] = 0x08;
-    listed(&nak);
+    listed(rt, &nak)?;
     let mut eof = EOF;
     eof[2] = 0x09;
-    listed(&eof);
+    listed(rt, &eof)?;
     eof[2] = 0x0C;
-    listed(&eof);
+    listed(rt, &eof)?;
     let mut ack = ACK;
     ack[8] = 0x60;
-    listed(&ack);
+    listed(rt, &ack)?;
     ack[9] = 0xC1;
-    listed(&ack);
+    listed(rt, &ack)?;
     let mut metadata = METADATA;
     metadata[8] = 0x04;
-    listed(&metadata);
+    listed(rt, &metadata)?;
     metadata[8] = 0x00;
     metadata[13] = 0x10;
-    listed(&metadata);
+    listed(rt, &metadata)
 }
 
 // The four PDUs; bytes of a name that no terminal should get.
-pub fn pdus() {
-    listed(&N);
-    listed(&EOF);
-    listed(&ACK);
-    listed(&METADATA);
+pub fn pdus(rt: &impl Print) -> io::Result<()> {
+    listed(rt, &N)?;
+    listed(rt, &EOF)?;
+    listed(rt, &ACK)?;
+    listed(rt, &METADATA)?;
     let mut metadata = METADATA;
     metadata[14] = 0x1B;
     metadata[15] = 0x20;
@@ -165,7 +172,7 @@ pub fn pdus() {
     metadata[22] = 0xC3;
     metadata[23] = 0xBC;
     metadata[24] = 0x0A;
-    listed(&metadata);
-    refused_first();
-    refused_data();
+    listed(rt, &metadata)?;
+    refused_first(rt)?;
+    refused_data(rt)
 }

@@ -2,6 +2,5 @@
 mod Given
 mod Shown
 mod Pairs
-mod Differing
 mod MetadataShown
 mod Standing

@@ -1,40 +1,31 @@
--- A Metadata PDU and its options as numbers: the last numbers are stored behind the others, and an option is shown, or the end, or that it is cut.
+-- The options of a Metadata PDU as numbers: an option is shown, its last numbers stored behind the others, or the end, or that it is cut.
 -- Assumes nothing.
 use Prim.Native.Nat.{ℕ}
 use mathlib.Core.Path.{◌≡◌, ap, ◌∙◌}
-use mathlib.Core.List.{List, [], ◌∷◌, ◌++◌}
+use mathlib.Core.List.{List, [], ◌∷◌}
 use lib.ListN.{set}
 use Rattle.fields.specs.declared.refusal.Refusal.TheVariants.{FieldCut}
-use Rattle.tlv.specs.declared.Field.{Field}
-use Rattle.tlv.specs.declared.walk.FieldCursor.{FieldCursor}
+use Rattle.std.specs.Prelude.{Option, Some, None, Result, Ok, Err}
+use Rattle.fields.specs.declared.refusal.Refusal.{Refusal}
 use Rattle.tlv.specs.declared.walk.NextField.{NextField}
-use Rattle.tlv.specs.declared.walk.NextField.TheVariants.{Field as Next, End, Cut}
-use Rattle.metadata.specs.declared.Metadata.{Metadata}
-use Rattle.metadata.specs.Writing.{closure_bit}
-use Rattle.cfdp.specs.Shown.{padded, answer_size, refusal_shown, header_numbers}
-use Rattle.cfdp.specs.MetadataNumbers.{part_numbers, metadata_numbers, option_shown}
-
-pub metadata_numbers_lem : (m : Metadata) (b : ℕ) (out : List ℕ) → b ≡ closure_bit m.params.closure
-    → out ≡ padded answer_size (0 ∷ (header_numbers m.params.header ++ (b ∷ m.params.kind ∷ m.params.size ∷ m.source.start ∷ m.source.stop ∷ [])))
-    → set (set (set (set out 20 m.destination.start) 21 m.destination.stop) 22 m.options.start) 23 m.options.stop ≡ padded answer_size (0 ∷ metadata_numbers m)
-metadata_numbers_lem m b out pb p =
-    ap (λ (x : List ℕ). set (set (set (set x 20 m.destination.start) 21 m.destination.stop) 22 m.options.start) 23 m.options.stop) p
-    ∙ ap
-    (λ (i : ℕ). padded answer_size (0 ∷ (header_numbers m.params.header ++ (i ∷ m.params.kind ∷ m.params.size ∷ (part_numbers m.source ++ (part_numbers m.destination ++ part_numbers m.options)))))) pb
+use Rattle.tlv.specs.declared.Cut.{Cut}
+use Rattle.cfdp.specs.Shown.{padded, answer_size, refusal_shown}
+use Rattle.cfdp.specs.MetadataNumbers.{option_shown}
 
 pub option_numbers : (tag start stop next : ℕ) (out : List ℕ) → out ≡ padded answer_size (0 ∷ tag ∷ start ∷ [])
     → set (set out 3 stop) 4 next ≡ padded answer_size (0 ∷ tag ∷ start ∷ stop ∷ next ∷ [])
 option_numbers tag start stop next out p = ap (λ (x : List ℕ). set (set x 3 stop) 4 next) p
 
-module _ (k : NextField) (out : List ℕ) where
-  pub cut_shown : (place : ℕ) → Cut place ≡ k → out ≡ refusal_shown (FieldCut place) → out ≡ option_shown k
+module _ (k : Result (Option NextField) Cut) (out : List ℕ) where
+  pub cut_shown : (cut : Cut) (r : Refusal) → Err cut ≡ k → r ≡ FieldCut cut.at → out ≡ refusal_shown r → out ≡ option_shown k
   unfolding refusal_shown option_shown
-  cut_shown place e p = p ∙ ap option_shown e
+  cut_shown cut r e q p = p ∙ ap refusal_shown q ∙ ap option_shown e
 
-  pub end_shown : End ≡ k → out ≡ padded answer_size (0 ∷ 0 ∷ 0 ∷ []) → out ≡ option_shown k
+  pub end_shown : Ok None ≡ k → out ≡ padded answer_size (0 ∷ 0 ∷ 0 ∷ []) → out ≡ option_shown k
   unfolding option_shown
   end_shown e p = p ∙ ap option_shown e
 
-  pub field_shown : (f : Field) (n : FieldCursor) → Next f n ≡ k → out ≡ padded answer_size (0 ∷ f.tag ∷ f.start ∷ f.stop ∷ n.at ∷ []) → out ≡ option_shown k
+  pub field_shown : (n : NextField) → Ok (Some n) ≡ k
+      → out ≡ padded answer_size (0 ∷ n.field.tag ∷ n.field.start ∷ n.field.stop ∷ n.next.at ∷ []) → out ≡ option_shown k
   unfolding option_shown
-  field_shown f n e p = p ∙ ap option_shown e
+  field_shown n e p = p ∙ ap option_shown e

@@ -1,28 +1,27 @@
 -- The pairs of a request area: the one of an index is the one that the cursor shows in its bytes, and storing pairs one after the other stores their numbers.
 -- Assumes nothing.
 use Prim.Native.Nat.{ℕ, zero, suc, ◌+◌, ◌-◌, ◌*◌, ◌/◌, ◌≤◌, ◌<◌}
-use mathlib.Core.Path.{◌≡◌, refl, sym, ap, ap₂, ◌∙◌}
-use mathlib.Core.Bool.{Bool, true, false}
+use mathlib.Core.Path.{◌≡◌, refl, sym, ap, ◌∙◌}
+use mathlib.Core.Bool.{Bool}
 use mathlib.Core.List.{List, [], ◌∷◌, ◌++◌}
 use native.Mathlib.Omega.{arith}
 use native.Mathlib.Nat.{div-add-mod', mul-le-mul_right, not-suc-le-zero, zero-add, add-zero}
 use native.Mathlib.Numerals.{add-one}
-use lib.ListN.{length, get_or, take, drop, set, get_or-eq_default, length-take, length-drop}
-use lib.Seq.{sets, sets-eq, drop-cons, drop-length, get_or-take}
-use borrow.Author.Tests.{lt-ltb, le-ltb}
+use lib.ListN.{length, get_or, take, drop, set, length-take, length-drop, drop_of_length-le}
+use lib.Seq.{sets, sets-eq, drop-cons, get_or-take}
 use Rattle.fields.specs.BigEndian.{number_at}
 use Rattle.header.specs.declared.flags.LargeFileFlag.{LargeFileFlag}
 use Rattle.header.specs.Flags.{file_if}
-use Rattle.nak.specs.declared.requests.RequestCursor.{RequestCursor}
-use Rattle.nak.specs.declared.requests.NextRequest.TheVariants.{Pair, End}
+use Rattle.nak.specs.declared.requests.NextRequest.{NextRequest}
+use Rattle.std.specs.Prelude.{Some, None}
+use Rattle.std.specs.List.{slice_get}
+use Rattle.std.proofs.lemmas.Option.{none-some, same_Some, slice_get_past, slice_get_within, slice_get-get_or, get_or_from_slice_get}
 use Rattle.header.specs.Size.{size_width}
-use Rattle.nak.specs.Nak.{pair_size}
 use Rattle.nak.specs.Requests.{pairs_from, next_request}
 use Rattle.nak.specs.Cases.{flat}
 use Rattle.fields.proofs.Parts.{number_part}
 use Rattle.nak.proofs.Walking.{pairs_count, pairs_are, shows_pair}
-use Rattle.cfdp.specs.declared.read.Found.{Found}
-use Rattle.cfdp.specs.Pairs.{pairs_in, is_pair, pair_at}
+use Rattle.cfdp.specs.Pairs.{pairs_in}
 
 -- ---- the pair of an index
 
@@ -43,70 +42,54 @@ pairs_at w a at (suc n) (suc i) h =
 pub whole_pair : (n size i : ℕ) → i < n / size → i * size + size ≤ n
 whole_pair n size i h = omega (arith, div-add-mod' n size, mul-le-mul_right size h)
 
-module _ (large : Bool) (a : List ℕ) (i : ℕ) where
-  -- what is answered where there is no such pair, and where there is
-  pub no_pair : (size : ℕ) (r : Found) → size ≡ pair_size (file_if large) → length a / size ≤ i → r ≡ record { there = false; start = 0; end = 0 }
-      → (r.there ≡ is_pair large a i) × (r.start ∷ r.end ∷ [] ≡ pair_at large a i)
-  no_pair size r es l e =
-      let n : length (pairs_in large a) ≡ length a / size = pairs_count (file_if large) a ∙ ap (λ (k : ℕ). length a / k) (sym es) in
-      let l' : length (pairs_in large a) ≤ i = omega arith in (
-        ap (λ (f : Found). f.there) e ∙ sym (le-ltb _ _ l'),
-        ap (λ (f : Found). f.start ∷ f.end ∷ []) e ∙ ap (λ (p : ℕ × ℕ). p.0 ∷ p.1 ∷ []) (sym (get_or-eq_default (pairs_in large a) (0, 0) l')),
-      )
+module _ (large : Bool) (a : List ℕ) (i : ℕ) (file : LargeFileFlag) (w : ℕ) (ef : file ≡ file_if large) (ew : w ≡ size_width file) where
+  same : size_width (file_if large) ≡ w
+  same = sym (ew ∙ ap size_width ef)
 
-  module _ (size : ℕ) (es : size ≡ pair_size (file_if large)) (h : i < length a / size) where
-    below : i < length a / pair_size (file_if large)
-    below = rw es at h
+  count_is : length (pairs_in large a) ≡ length a / (2 * w)
+  count_is = pairs_count (file_if large) a ∙ ap (λ (k : ℕ). length a / (2 * k)) same
 
-    -- the bytes of one offset
-    abbrev width : ℕ
-    width = size_width (file_if large)
+  -- an index behind the last whole pair names none
+  pub no_pair : length a / (2 * w) ≤ i → None ≡ slice_get (pairs_in large a) i
+  no_pair l = sym (slice_get_past (pairs_in large a) i (omega (arith, count_is)))
+
+  module _ (h : i < length a / (2 * w)) where
+    at_pair : get_or (pairs_in large a) i (0, 0) ≡ pair_of (size_width file) a (i * (2 * w))
+    at_pair =
+        ap (λ (ps : List (ℕ × ℕ)). get_or ps i (0, 0)) (pairs_are (file_if large) a)
+        ∙ ap (λ (k : ℕ). get_or (pairs_from k a 0 (length a / (2 * k))) i (0, 0)) same
+        ∙ pairs_at w a 0 (length a / (2 * w)) i h
+        ∙ ap (pair_of w a) (zero-add (i * (2 * w)))
+        ∙ ap (λ (k : ℕ). pair_of k a (i * (2 * w))) ew
 
     -- the pair's bytes
     abbrev part : List ℕ
-    part = take (i * size + size - i * size) (drop (i * size) a)
-
-    at_pair : get_or (pairs_in large a) i (0, 0) ≡ pair_of width a (i * size)
-    at_pair =
-        let e : 0 + i * pair_size (file_if large) ≡ i * size = omega (arith, ap (λ (k : ℕ). i * k) es) in
-        ap (λ (ps : List (ℕ × ℕ)). get_or ps i (0, 0)) (pairs_are (file_if large) a)
-        ∙ pairs_at width a 0 (length a / pair_size (file_if large)) i below
-        ∙ ap (pair_of width a) e
+    part = take (i * (2 * w) + 2 * w - i * (2 * w)) (drop (i * (2 * w)) a)
 
     -- in these bytes the cursor shows it
-    shows : (file : LargeFileFlag) → file ≡ file_if large
-        → next_request part file 0 ≡ Pair (number_at a (i * size) width) (number_at a (i * size + width) width) (record { at = 0 + pair_size (file_if large) })
-    shows file e =
-        let k : i * size + size - i * size ≡ size = omega arith in
-        let l : 0 + pair_size (file_if large) ≤ length part = omega
-        (arith, es, whole_pair (length a) size i h, length-take (i * size + size - i * size) (drop (i * size) a), length-drop (i * size) a) in
-        let p : number_at part 0 width ≡ number_at a (i * size) width = number_part a (i * size) (i * size + size - i * size) 0 width
-        (omega (arith, es))
-        ∙ ap (λ (m : ℕ). number_at a m width) (add-zero (i * size)) in
-        let q : number_at part (0 + width) width ≡ number_at a (i * size + width) width = number_part a (i * size) (i * size + size - i * size)
-        (0 + width) width (omega (arith, es))
-        ∙ ap (λ (m : ℕ). number_at a (i * size + m) width) (zero-add width) in
-        ap (λ (f : LargeFileFlag). next_request part f 0) e ∙ shows_pair part (file_if large) 0 l ∙ rw (p, q)
+    shows : next_request part file 0
+        ≡ Some (record { start = number_at a (i * (2 * w)) (size_width file); end = number_at a (i * (2 * w) + size_width file) (size_width file); next = record { at = 0 + 2 * size_width file } })
+    shows =
+        let at = i * (2 * w) in
+        let n = at + 2 * w - at in
+        let W = size_width file in
+        let k : n ≡ 2 * w = omega arith in
+        let l : 0 + 2 * W ≤ length part = omega (arith, k, ew, whole_pair (length a) (2 * w) i h, length-take n (drop at a), length-drop at a) in
+        let p : number_at part 0 W ≡ number_at a at W = number_part a at n 0 W (omega (arith, k, ew)) ∙ ap (λ (m : ℕ). number_at a m W) (add-zero at) in
+        let q : number_at part (0 + W) W ≡ number_at a (at + W) W = number_part a at n (0 + W) W (omega (arith, k, ew))
+        ∙ ap (λ (m : ℕ). number_at a (at + m) W) (zero-add W) in
+        shows_pair part file 0 l ∙ rw (p, q)
 
-    pub found_pair : (file : LargeFileFlag) (x y : ℕ) (next : RequestCursor) → file ≡ file_if large → Pair x y next ≡ next_request part file 0
-        → (true ≡ is_pair large a i) × (x ∷ y ∷ [] ≡ pair_at large a i)
-    found_pair file x y next e q =
-        let n = pairs_count (file_if large) a in
-        let b = below in
-        let l : i < length (pairs_in large a) = omega arith in
-        let s : Pair x y next ≡ Pair (number_at a (i * size) width) (number_at a (i * size + width) width) (record { at = 0 + pair_size (file_if large) }) = q
-        ∙ shows file e in
-        let p : x ≡ number_at a (i * size) width = cc in
-        let p' : y ≡ number_at a (i * size + width) width = cc in
-        (sym (lt-ltb _ _ l), ap₂ (λ (u v : ℕ). u ∷ v ∷ []) p p' ∙ ap (λ (r : ℕ × ℕ). r.0 ∷ r.1 ∷ []) (sym at_pair))
+    pub found_pair : (n : NextRequest) → Some n ≡ next_request part file 0 → Some (n.start, n.end) ≡ slice_get (pairs_in large a) i
+    found_pair n q =
+        let l : i < length (pairs_in large a) = omega (arith, count_is) in
+        ap (λ (m : NextRequest). Some (m.start, m.end)) (same_Some _ _ (q ∙ shows))
+        ∙ ap Some (sym at_pair)
+        ∙ sym (slice_get-get_or (pairs_in large a) i (0, 0) l)
 
     -- and so not the end
-    pub not_end : (file : LargeFileFlag) → file ≡ file_if large → End ≡ next_request part file 0 → ⊥
-    not_end file e q =
-        let s : End ≡ Pair (number_at a (i * size) width) (number_at a (i * size + width) width) (record { at = 0 + pair_size (file_if large) }) = q
-        ∙ shows file e in
-        let z : ◌≡◌ {A = ℕ} 0 1 = cc in
-        omega arith
+    pub not_end : None ≡ next_request part file 0 → ⊥
+    not_end q = none-some _ (q ∙ shows)
 
 -- ---- pairs stored one after the other
 
@@ -116,22 +99,26 @@ flat_length (p ∷ ps) = let e = flat_length ps in omega arith
 
 module _ (ps : List (ℕ × ℕ)) (room i : ℕ) (l : List ℕ) where
   -- one more pair is stored
-  pub pair_turn : i < room → i < length ps → (x y : ℕ) → x ∷ y ∷ [] ≡ (get_or ps i (0, 0)).0 ∷ (get_or ps i (0, 0)).1 ∷ []
+  pub pair_turn : i < room → (x y : ℕ) → Some (x, y) ≡ slice_get ps i
       → sets (set (set l (2 * i) x) (2 * i + 1) y) (2 * (i + 1)) (flat (drop (i + 1) (take room ps))) ≡ sets l (2 * i) (flat (drop i (take room ps)))
-  pair_turn h k x y e =
-      let b : i < length (take room ps) = omega (arith, length-take room ps) in
-      let p : x ≡ (get_or ps i (0, 0)).0 = cc in
-      let p' : y ≡ (get_or ps i (0, 0)).1 = cc in
+  pair_turn h x y e =
+      let b : i < length (take room ps) = omega (arith, length-take room ps, slice_get_within ps i (x, y) (sym e)) in
+      let q : get_or ps i (0, 0) ≡ (x, y) = get_or_from_slice_get ps i (x, y) (0, 0) (sym e) in
       let e₁ : 2 * i + 1 ≡ suc (2 * i) = omega arith in
       let e₂ : 2 * (i + 1) ≡ suc (suc (2 * i)) = omega arith in
-      rw (drop-cons (take room ps) i (0, 0) b, get_or-take room ps i (0, 0) h, p, p', e₁, e₂, add-one)
+      rw (drop-cons (take room ps) i (0, 0) b, get_or-take room ps i (0, 0) h, q, e₁, e₂, add-one)
+
+-- an index that names no pair lies behind all of them
+pub pair_none : (ps : List (ℕ × ℕ)) (i : ℕ) → None ≡ slice_get ps i → length ps ≤ i
+pair_none [] i e = omega arith
+pair_none (p ∷ ps) zero e = absurd (none-some _ e)
+pair_none (p ∷ ps) (suc i) e = omega (arith, pair_none ps i e)
 
 -- no pair is left: all that have room are stored
-pub pairs_done : (qs : List (ℕ × ℕ)) (i : ℕ) (s l : List ℕ) → i ≤ length qs → length qs ≤ i → 2 * length qs ≤ length s
+pub pairs_done : (qs : List (ℕ × ℕ)) (i : ℕ) (s l : List ℕ) → length qs ≤ i → 2 * length qs ≤ length s
     → sets l (2 * i) (flat (drop i qs)) ≡ sets s 0 (flat qs)
-    → (i ≡ length qs) × (l ≡ flat qs ++ drop (length (flat qs)) s)
-pairs_done qs i s l h k room e =
-    let n : i ≡ length qs = omega arith in
-    let none : drop i qs ≡ [] = ap (λ (j : ℕ). drop j qs) n ∙ drop-length qs in
+    → l ≡ flat qs ++ drop (length (flat qs)) s
+pairs_done qs i s l k room e =
+    let none : drop i qs ≡ [] = drop_of_length-le qs k in
     let all : l ≡ sets s 0 (flat qs) = ap (λ (rs : List (ℕ × ℕ)). sets l (2 * i) (flat rs)) (sym none) ∙ e in
-    (n, all ∙ sets-eq (flat qs) s 0 (omega (arith, flat_length qs)) ∙ simp zero-add)
+    all ∙ sets-eq (flat qs) s 0 (omega (arith, flat_length qs)) ∙ simp zero-add

@@ -1,10 +1,10 @@
 -- Answers as numbers: a refusal is shown by its number and values, what was accepted by 0 and its numbers.
 -- Assumes nothing.
 use Prim.Native.Nat.{ℕ, zero, suc, ◌≤◌}
-use mathlib.Core.Path.{◌≡◌, refl, sym, ap, ap₂, ◌∙◌}
+use mathlib.Core.Path.{◌≡◌, refl, sym, ap, ◌∙◌}
 use mathlib.Core.List.{List, [], ◌∷◌, ◌++◌}
 use native.Mathlib.Omega.{arith}
-use lib.ListN.{length, get_or, take, set}
+use lib.ListN.{length, get_or, take}
 use Rattle.fields.specs.declared.refusal.Refusal.{Refusal}
 use Rattle.fields.specs.declared.refusal.RefusalNumbers.{RefusalNumbers}
 use Rattle.fields.specs.Refusal.{paper, numbers_of}
@@ -13,12 +13,8 @@ use Rattle.fields.proofs.OneToOne.{numbers_paper}
 use Rattle.fields.proofs.Judging.{told_cases}
 use Rattle.header.specs.declared.PduHeader.{PduHeader}
 use Rattle.header.specs.Flags.{pdu_type_bit, direction_bit, mode_bit, crc_bit, file_bit, control_bit, metadata_bit}
-use Rattle.header.specs.Header.{header_length, pdu_length, data_end}
-use Rattle.eof.specs.declared.Eof.{Eof}
-use Rattle.ack.specs.declared.Ack.{Ack}
-use Rattle.ack.specs.Ack.{status_bits}
-use Rattle.nak.specs.declared.reserve.ReservedNak.{ReservedNak}
-use Rattle.cfdp.specs.Shown.{padded, answer_size, shown, refusal_shown, header_numbers, read_header_numbers, reserved_numbers, fault_numbers, eof_numbers, ack_numbers}
+use Rattle.header.specs.Header.{header_length}
+use Rattle.cfdp.specs.Shown.{padded, answer_size, shown, refusal_shown, header_numbers, read_header_numbers}
 
 -- up to three numbers, and zeros behind them
 few : (ns : List ℕ) → length ns ≤ 3 → padded answer_size ns ≡ padded answer_size (get_or ns 0 0 ∷ get_or ns 1 0 ∷ get_or ns 2 0 ∷ [])
@@ -73,26 +69,3 @@ header_numbers_lem h rest t d m c f g s et ed em ec ef eg es = rw (et, ed, em, e
 pub read_header_shown : (h : PduHeader) (n : ℕ) (o : Answer PduHeader) (out : List ℕ) → accepted h ≡ o → n ≡ header_length h
     → out ≡ padded answer_size (0 ∷ (header_numbers h ++ (n ∷ 0 ∷ 0 ∷ 0 ∷ 0 ∷ []))) → out ≡ shown read_header_numbers o
 read_header_shown h n o out e l p = accepted_shown read_header_numbers h o out e (p ∙ ap (λ (k : ℕ). padded answer_size (0 ∷ (header_numbers h ++ (k ∷ [])))) l)
-
--- a NAK that was reserved is shown with the length that it will have
-pub reserved_shown : (r : ReservedNak) (n : ℕ) (o : Answer ReservedNak) (out : List ℕ) → accepted r ≡ o → n ≡ pdu_length r.header
-    → out ≡ padded answer_size (0 ∷ (header_numbers r.header ++ (r.count ∷ r.area ∷ r.stop ∷ n ∷ 0 ∷ [])))
-    → out ≡ shown reserved_numbers o
-reserved_shown r n o out e l p =
-    accepted_shown reserved_numbers r o out e
-    (p ∙ ap (λ (k : ℕ). padded answer_size (0 ∷ (header_numbers r.header ++ (r.count ∷ r.area ∷ r.stop ∷ k ∷ [])))) l)
-
--- an ACK that was read is shown with its status as a number, and E
-pub ack_shown : (a : Ack) (s n : ℕ) (o : Answer Ack) (out : List ℕ) → accepted a ≡ o → s ≡ status_bits a.status → n ≡ data_end a.header
-    → out ≡ padded answer_size (0 ∷ (header_numbers a.header ++ (a.acked ∷ a.condition ∷ s ∷ n ∷ 0 ∷ []))) → out ≡ shown ack_numbers o
-ack_shown a s n o out e ps pn p =
-    accepted_shown ack_numbers a o out e
-    (p ∙ ap₂ (λ (i j : ℕ). padded answer_size (0 ∷ (header_numbers a.header ++ (a.acked ∷ a.condition ∷ i ∷ j ∷ [])))) ps pn)
-
--- an EOF's last two numbers are stored behind the others
-pub eof_numbers_lem : (e : Eof) (t w v n : ℕ) (b : List ℕ) → t ∷ w ∷ v ∷ [] ≡ fault_numbers e.fault → n ≡ data_end e.header
-    → b ≡ padded answer_size (0 ∷ (header_numbers e.header ++ (e.condition ∷ e.file_checksum ∷ e.size ∷ t ∷ w ∷ []))) → set (set b 20 v) 21 n ≡ padded answer_size (0 ∷ eof_numbers e)
-eof_numbers_lem e t w v n b pf pn p =
-    ap (λ (x : List ℕ). set (set x 20 v) 21 n) p
-    ∙ ap₂
-    (λ (fs : List ℕ) (i : ℕ). padded answer_size (0 ∷ (header_numbers e.header ++ (e.condition ∷ e.file_checksum ∷ e.size ∷ (fs ++ (i ∷ [])))))) pf pn

@@ -1,5 +1,5 @@
 -- A header that goes in as numbers: its shape (seven flags and three widths), d, and its three values.
-use Rattle.std.specs.Prelude.{ℕ, ◌+◌, Bool, true, false, not, List, eqb, get_or}
+use Rattle.std.specs.Prelude.{ℕ, ◌+◌, Bool, true, false, not, List, eqb, get_or, Option, Some, None}
 use Rattle.fields.specs.declared.field.UnsignedByteField.{UnsignedByteField}
 use Rattle.fields.specs.Answer.{Answer, accepted, short, refused, and_then}
 use Rattle.fields.specs.Staged.{run}
@@ -7,8 +7,7 @@ use Rattle.header.specs.declared.PduHeader.{PduHeader}
 use Rattle.header.specs.Flags.{pdu_type_if, direction_if, mode_if, crc_if, file_if, control_if, metadata_if}
 use Rattle.header.specs.Judging.{joining}
 use Rattle.eof.specs.declared.Eof.{Eof}
-use Rattle.eof.specs.declared.fault.FaultLocation.{FaultLocation}
-use Rattle.eof.specs.declared.fault.FaultLocation.TheVariants.{At, Nowhere}
+use Rattle.eof.specs.declared.fault.EntityIdTlv.{EntityIdTlv}
 use Rattle.ack.specs.declared.Ack.{Ack}
 use Rattle.ack.specs.declared.status.TransactionStatus.{TransactionStatus}
 use Rattle.nak.specs.declared.reserve.ReservedNak.{ReservedNak}
@@ -52,11 +51,11 @@ abbrev pub reserved_from : PduHeader → ℕ → ReservedNak
 reserved_from h pairs = record { header = h; count = pairs; area = 0; stop = 0 }
 
 -- a fault location, if there is one, by its width and value, and the EOF that has it
-abbrev pub fault_from : Bool → ℕ → ℕ → FaultLocation
-fault_from true width value = At (record { width = width; id = record { 0 = value } })
-fault_from false width value = Nowhere
+abbrev pub fault_from : Bool → ℕ → ℕ → Option EntityIdTlv
+fault_from true width value = Some (record { width = width; id = record { 0 = value } })
+fault_from false width value = None
 
-abbrev pub eof_from : PduHeader → ℕ → ℕ → ℕ → FaultLocation → Eof
+abbrev pub eof_from : PduHeader → ℕ → ℕ → ℕ → Option EntityIdTlv → Eof
 eof_from h condition checksum size fault = record { header = h; condition = condition; file_checksum = checksum; size = size; fault = fault }
 
 -- an ACK, by its status

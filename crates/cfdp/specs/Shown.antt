@@ -1,5 +1,5 @@
 -- An answer as numbers: 0 and what was accepted, or the refusal's number and its values; the rest is 0.
-use Rattle.std.specs.Prelude.{ℕ, zero, suc, Bool, true, false, List, [], ◌∷◌, ◌++◌}
+use Rattle.std.specs.Prelude.{ℕ, zero, suc, Bool, true, false, List, [], ◌∷◌, ◌++◌, Option, Some, None}
 use Rattle.fields.specs.declared.refusal.Refusal.{Refusal}
 use Rattle.fields.specs.Refusal.{paper}
 use Rattle.fields.specs.Answer.{Answer, accepted, short, refused}
@@ -7,8 +7,7 @@ use Rattle.header.specs.declared.PduHeader.{PduHeader}
 use Rattle.header.specs.Flags.{pdu_type_bit, direction_bit, mode_bit, crc_bit, file_bit, control_bit, metadata_bit}
 use Rattle.header.specs.Header.{header_length, pdu_length, data_end}
 use Rattle.eof.specs.declared.Eof.{Eof}
-use Rattle.eof.specs.declared.fault.FaultLocation.{FaultLocation}
-use Rattle.eof.specs.declared.fault.FaultLocation.TheVariants.{At, Nowhere}
+use Rattle.eof.specs.declared.fault.EntityIdTlv.{EntityIdTlv}
 use Rattle.ack.specs.declared.Ack.{Ack}
 use Rattle.ack.specs.Ack.{status_bits}
 use Rattle.nak.specs.declared.Nak.{Nak}
@@ -70,9 +69,9 @@ abbrev pub nak_numbers : Nak → List ℕ
 nak_numbers n = header_numbers n.header ++ (n.start ∷ n.end ∷ n.area ∷ n.stop ∷ n.count ∷ [])
 
 -- a fault location: 1 where there is one, its width and its value; else zeros
-abbrev pub fault_numbers : FaultLocation → List ℕ
-fault_numbers (At t) = 1 ∷ t.width ∷ t.id.0 ∷ []
-fault_numbers Nowhere = 0 ∷ 0 ∷ 0 ∷ []
+abbrev pub fault_numbers : Option EntityIdTlv → List ℕ
+fault_numbers (Some t) = 1 ∷ t.width ∷ t.id.0 ∷ []
+fault_numbers None = 0 ∷ 0 ∷ 0 ∷ []
 
 -- an EOF that was read: header, condition code, file checksum, file size, fault location, E
 abbrev pub eof_numbers : Eof → List ℕ

@@ -1,9 +1,8 @@
 // The checksum and the header: read, built, written, verified.
 ghost use Rattle.std.specs.Prelude.{◌≡◌, length};
 ghost use Rattle.fields.specs.Checksum.{checksum_of};
-ghost use Rattle.fields.specs.Answer.{and_then};
+ghost use Rattle.fields.specs.Answer.{and_then, answer_of};
 ghost use Rattle.fields.specs.Staged.{run};
-ghost use Rattle.header.specs.Answers.{header_answer};
 ghost use Rattle.header.specs.Judging.{judging};
 ghost use Rattle.header.specs.Reading.{reading_header};
 ghost use Rattle.header.specs.Verifying.{verifying};
@@ -11,9 +10,9 @@ ghost use Rattle.header.specs.Writing.{writing_header, header_memory};
 ghost use Rattle.cfdp.specs.Given.{header_from, left_by};
 ghost use Rattle.cfdp.specs.Shown.{shown, header_numbers, one_number, read_header_numbers};
 
-use crate::{Answer, header_from, show_header, show_length, show_refusal};
-use fields::crc;
-use header::{HeaderResult, PduHeader};
+use crate::{Answer, header_from, show, show_header, show_refusal, with_header};
+use fields::{Refusal, crc};
+use header::PduHeader;
 
 pub fn cfdp_checksum(bytes: &[u8]) -> u16
     ensures { result ≡ checksum_of bytes.now }
@@ -26,20 +25,11 @@ pub fn cfdp_header_read(bytes: &[u8], answer: &mut Answer)
 {
     let read = PduHeader::from_bytes(bytes);
     match read {
-        HeaderResult::Refused(refusal) => show_refusal(refusal, answer),
-        HeaderResult::Header(header) => {
+        Err(refusal) => show_refusal(refusal, answer),
+        Ok(header) => {
             let length = header.header_len() as u64;
             show_header(header, length, 0, 0, 0, 0, answer)
         }
-    }
-}
-
-fn show_built(res: HeaderResult, answer: &mut Answer)
-    ensures { answer.new ≡ shown header_numbers (header_answer res) }
-{
-    match res {
-        HeaderResult::Refused(refusal) => show_refusal(refusal, answer),
-        HeaderResult::Header(header) => show_header(header, 0, 0, 0, 0, 0, answer),
     }
 }
 
@@ -47,13 +37,8 @@ pub fn cfdp_header_build(shape: &[u8; 10], data_length: u16, ids: &[u64; 3], ans
     ensures { answer.new ≡ shown header_numbers (and_then (header_from shape.now data_length ids.now) judging) }
 {
     let joined = header_from(shape, data_length, ids);
-    match joined {
-        HeaderResult::Refused(refusal) => show_refusal(refusal, answer),
-        HeaderResult::Header(header) => {
-            let built = header.judged();
-            show_built(built, answer)
-        }
-    }
+    let built = joined.and_then(|header| header.judged());
+    show(built, answer)
 }
 
 pub fn cfdp_header_write(
@@ -67,13 +52,8 @@ pub fn cfdp_header_write(
     ensures stored { buf.new ≡ left_by (header_from shape.now data_length ids.now) (λ h. header_memory h buf.old) buf.old }
 {
     let joined = header_from(shape, data_length, ids);
-    match joined {
-        HeaderResult::Refused(refusal) => show_refusal(refusal, answer),
-        HeaderResult::Header(header) => {
-            let written = header.write_to_slice(buf);
-            show_length(written, answer)
-        }
-    }
+    let written = with_header(joined, buf, |header, buf| header.write_to_slice(buf));
+    show(written, answer)
 }
 
 pub fn cfdp_header_verify(
@@ -86,11 +66,6 @@ pub fn cfdp_header_verify(
     ensures { answer.new ≡ shown one_number (and_then (header_from shape.now data_length ids.now) (λ h. run (verifying h) bytes.now)) }
 {
     let joined = header_from(shape, data_length, ids);
-    match joined {
-        HeaderResult::Refused(refusal) => show_refusal(refusal, answer),
-        HeaderResult::Header(header) => {
-            let verified = header.verify_length_and_checksum(bytes);
-            show_length(verified, answer)
-        }
-    }
+    let verified = joined.and_then(|header| header.verify_length_and_checksum(bytes));
+    show(verified, answer)
 }

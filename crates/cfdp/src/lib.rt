@@ -2,18 +2,19 @@
 // numbers. Every value of every parameter has its answer. `include/cfdp.h` declares them all.
 #![tactic(auto)]
 
-ghost use Rattle.std.specs.Prelude.{◌≡◌, [], ◌∷◌, ◌++◌};
-ghost use Rattle.header.specs.Answers.{header_answer, length_answer};
-ghost use Rattle.header.specs.Pdu.{write_answer};
+ghost use Rattle.std.specs.Prelude.{◌≡◌, ℕ, List, [], ◌∷◌, ◌++◌, Err, MatchResult};
+ghost use Rattle.fields.specs.Answer.{answer_of};
 ghost use Rattle.cfdp.specs.Given.{header_from};
-ghost use Rattle.cfdp.specs.Shown.{padded, answer_size, shown, refusal_shown, header_numbers, one_number, written_numbers};
+ghost use Rattle.cfdp.specs.Shown.{padded, answer_size, shown, refusal_shown, header_numbers, one_number, verdict_number, written_numbers, nak_numbers};
 
 use fields::{Refusal, TransactionSeqNum, UnsignedByteField};
-use header::pdu::WriteResult;
+use header::judge::HeaderFields;
+use header::pdu::PduWritten;
 use header::{
-    CrcFlag, Direction, HeaderResult, LargeFileFlag, LengthResult, PduHeader, PduType,
-    SegmentMetadataFlag, SegmentationControl, TransmissionMode,
+    CrcFlag, Direction, Flag, LargeFileFlag, PduHeader, PduType, SegmentMetadataFlag,
+    SegmentationControl, TransmissionMode,
 };
+use nak::Nak;
 
 pub mod acks;
 pub mod compare;
@@ -34,34 +35,35 @@ pub const ANSWER_LEN: usize = 24;
 pub type Answer = [u64; ANSWER_LEN];
 
 // A header from its numbers: 13 where the two identifiers' widths differ, and nothing else of it is judged here.
-fn header_from(shape: &[u8; 10], length: u16, ids: &[u64; 3]) -> HeaderResult
-    ensures { header_answer result ≡ header_from shape.now length ids.now }
+// Kept: shape and identifiers are apart, because C lends them so.
+fn header_from(shape: &[u8; 10], length: u16, ids: &[u64; 3]) -> Result<PduHeader, Refusal>
+    ensures { answer_of result ≡ header_from shape.now length ids.now }
 {
-    let source = UnsignedByteField {
-        width: shape[7],
-        value: ids[0],
-    };
-    let sequence = UnsignedByteField {
-        width: shape[8],
-        value: ids[1],
-    };
-    let destination = UnsignedByteField {
-        width: shape[9],
-        value: ids[2],
-    };
-    PduHeader::from_fields(
-        PduType::from_bit(shape[0] != 0),
-        Direction::from_bit(shape[1] != 0),
-        TransmissionMode::from_bit(shape[2] != 0),
-        CrcFlag::from_bit(shape[3] != 0),
-        LargeFileFlag::from_bit(shape[4] != 0),
+    PduHeader::from_fields(HeaderFields {
+        kind: PduType::from_bit(shape[0] != 0),
+        direction: Direction::from_bit(shape[1] != 0),
+        mode: TransmissionMode::from_bit(shape[2] != 0),
+        crc: CrcFlag::from_bit(shape[3] != 0),
+        file: LargeFileFlag::from_bit(shape[4] != 0),
         length,
-        SegmentationControl::from_bit(shape[5] != 0),
-        SegmentMetadataFlag::from_bit(shape[6] != 0),
-        source,
-        TransactionSeqNum(sequence),
-        destination,
-    )
+        control: SegmentationControl::from_bit(shape[5] != 0),
+        metadata: SegmentMetadataFlag::from_bit(shape[6] != 0),
+        source: UnsignedByteField::new(shape[7], ids[0]),
+        sequence: TransactionSeqNum(UnsignedByteField::new(shape[8], ids[1])),
+        destination: UnsignedByteField::new(shape[9], ids[2]),
+    })
+}
+
+// What is made of a header with the lent bytes; where there is no header no byte changes.
+fn with_header<T, F: FnOnce(PduHeader, &mut [u8]) -> Result<T, Refusal>>(
+    joined: Result<PduHeader, Refusal>,
+    buf: &mut [u8],
+    write: F,
+) -> Result<T, Refusal>
+    requires { F.IsAlwaysCallable write }
+    ensures { MatchResult joined (λ h. (lent left : _) × F.post write h lent result left × (lent.now ≡ buf.old) × (left.now ≡ buf.new)) (λ e. (result ≡ Err e) × (buf.new ≡ buf.old)) }
+{
+    write(joined?, buf)
 }
 
 // Up to three numbers, and zeros behind them.
@@ -79,13 +81,6 @@ fn show_refusal(refusal: Refusal, answer: &mut Answer)
 {
     let n = refusal.numbers();
     show_few(n.number as u64, n.first, n.second, answer)
-}
-
-// A length or a count.
-fn show_number(value: usize, answer: &mut Answer)
-    ensures { answer.new ≡ padded answer_size (0 ∷ value ∷ []) }
-{
-    show_few(0, value as u64, 0, answer)
 }
 
 // A header, and up to five numbers behind it.
@@ -129,24 +124,65 @@ fn show_header(header: PduHeader, a: u64, b: u64, c: u64, d: u64, e: u64, answer
     ];
 }
 
-fn show_length(res: LengthResult, answer: &mut Answer)
-    ensures { answer.new ≡ shown one_number (length_answer res) }
+// What is shown of a value that was accepted: its numbers.
+trait Numbers {
+    ghost numbers: { Self → List ℕ };
+
+    fn put(self, answer: &mut Answer)
+        ensures { answer.new ≡ padded answer_size (0 ∷ numbers self) };
+}
+
+// A value's numbers behind 0, or the refusal.
+fn show<T: Numbers>(res: Result<T, Refusal>, answer: &mut Answer)
+    ensures { answer.new ≡ shown T.numbers (answer_of res) }
 {
     match res {
-        LengthResult::Refused(refusal) => show_refusal(refusal, answer),
-        LengthResult::Length(n) => show_number(n, answer),
+        Err(refusal) => show_refusal(refusal, answer),
+        Ok(value) => value.put(answer),
     }
 }
 
-fn show_written(res: WriteResult, answer: &mut Answer)
-    ensures { answer.new ≡ shown written_numbers (write_answer res) }
-{
-    match res {
-        WriteResult::Refused(refusal) => show_refusal(refusal, answer),
-        WriteResult::Written(written) => {
-            let header = written.header;
-            let length = written.length as u64;
-            show_header(header, length, 0, 0, 0, 0, answer)
-        }
+// A length or a count.
+impl Numbers for usize {
+    ghost numbers = { one_number };
+
+    fn put(self, answer: &mut Answer) {
+        show_few(0, self as u64, 0, answer)
+    }
+}
+
+// Yes as 1, no as 0.
+impl Numbers for bool {
+    ghost numbers = { verdict_number };
+
+    fn put(self, answer: &mut Answer) {
+        show_few(0, self as u64, 0, answer)
+    }
+}
+
+impl Numbers for PduHeader {
+    ghost numbers = { header_numbers };
+
+    fn put(self, answer: &mut Answer) {
+        show_header(self, 0, 0, 0, 0, 0, answer)
+    }
+}
+
+impl Numbers for PduWritten {
+    ghost numbers = { written_numbers };
+
+    fn put(self, answer: &mut Answer) {
+        show_header(self.header, self.length as u64, 0, 0, 0, 0, answer)
+    }
+}
+
+impl Numbers for Nak {
+    ghost numbers = { nak_numbers };
+
+    fn put(self, answer: &mut Answer) {
+        let area = self.area as u64;
+        let stop = self.stop as u64;
+        let count = self.count as u64;
+        show_header(self.header, self.start, self.end, area, stop, count, answer)
     }
 }

@@ -9,65 +9,62 @@ ghost use Rattle.cfdp.specs.Given.{given_header, left_by};
 ghost use Rattle.cfdp.specs.Shown.{padded, answer_size, shown, written_numbers};
 ghost use Rattle.cfdp.specs.MetadataNumbers.{metadata_numbers, option_shown, params_from};
 
-use crate::{Answer, header_from, show_few, show_header, show_refusal, show_written};
+use crate::{Answer, Numbers, header_from, show, show_few, show_header, show_refusal, with_header};
 use fields::Refusal;
-use header::HeaderResult;
 use metadata::write::closure_bit;
-use metadata::{Metadata, MetadataParams, MetadataResult, parts};
+use metadata::{Metadata, MetadataParams, parts};
+use tlv::Form;
 use tlv::walk::{FieldCursor, NextField};
-use tlv::{Field, Form};
 
-fn show_metadata(metadata: Metadata, answer: &mut Answer)
-    ensures { answer.new ≡ padded answer_size (0 ∷ metadata_numbers metadata) }
-{
-    let params = metadata.params;
-    let header = params.header;
-    let source = metadata.source;
-    let destination = metadata.destination;
-    let options = metadata.options;
-    show_header(
-        header,
-        closure_bit(params.closure) as u64,
-        params.kind as u64,
-        params.size,
-        source.start as u64,
-        source.stop as u64,
-        answer,
-    );
-    answer[20] = destination.start as u64;
-    answer[21] = destination.stop as u64;
-    answer[22] = options.start as u64;
-    answer[23] = options.stop as u64;
+impl Numbers for Metadata {
+    ghost numbers = { metadata_numbers };
+
+    // The last four numbers lie behind those that stand behind a header.
+    fn put(self, answer: &mut Answer) {
+        let params = self.params;
+        let source = self.source;
+        let destination = self.destination;
+        let options = self.options;
+        show_header(
+            params.header,
+            closure_bit(params.closure) as u64,
+            params.kind as u64,
+            params.size,
+            source.start as u64,
+            source.stop as u64,
+            answer,
+        );
+        answer[20] = destination.start as u64;
+        answer[21] = destination.stop as u64;
+        answer[22] = options.start as u64;
+        answer[23] = options.stop as u64;
+    }
 }
 
 pub fn cfdp_metadata_read(bytes: &[u8], answer: &mut Answer)
     ensures { answer.new ≡ shown metadata_numbers (run reading_metadata bytes.now) }
 {
-    let read = Metadata::from_bytes(bytes);
-    match read {
-        MetadataResult::Refused(refusal) => show_refusal(refusal, answer),
-        MetadataResult::Metadata(metadata) => show_metadata(metadata, answer),
-    }
+    show(Metadata::from_bytes(bytes), answer)
 }
 
 // An option, and where the next one begins.
-fn show_option(option: Field, next: FieldCursor, answer: &mut Answer)
-    ensures { answer.new ≡ padded answer_size (0 ∷ option.tag ∷ option.start ∷ option.stop ∷ next.at ∷ []) }
+fn show_option(found: NextField, answer: &mut Answer)
+    ensures { answer.new ≡ padded answer_size (0 ∷ found.field.tag ∷ found.field.start ∷ found.field.stop ∷ found.next.at ∷ []) }
 {
+    let option = found.field;
     show_few(0, option.tag as u64, option.start as u64, answer);
     answer[3] = option.stop as u64;
-    answer[4] = next.at as u64;
+    answer[4] = found.next.at as u64;
 }
 
+#[tactic(auto, using(crate::proofs::MetadataShown::end_shown))]
 pub fn cfdp_metadata_option(area: &[u8], at: usize, answer: &mut Answer)
     ensures { answer.new ≡ option_shown (next_field Form.Tlv area.now at) }
 {
-    let cursor = FieldCursor { at };
-    let found = parts::next_option(area, cursor);
-    match found {
-        NextField::Cut(place) => show_refusal(Refusal::FieldCut(place), answer),
-        NextField::End => show_few(0, 0, 0, answer),
-        NextField::Field { field, next } => show_option(field, next, answer),
+    match parts::next_option(area, FieldCursor { at }) {
+        Err(cut) => show_refusal(Refusal::from(cut), answer),
+        Ok(None) => show_few(0, 0, 0, answer),
+        Ok(Some(found)) => show_option(found, answer),
     }
 }
 
@@ -87,17 +84,14 @@ pub fn cfdp_metadata_write(
     ensures stored { buf.new ≡ left_by (given_header shape.now ids.now) (λ h. metadata_memory (params_from h closure checksum_type file_size) source.now destination.now options.now buf.old) buf.old }
 {
     let joined = header_from(shape, 0, ids);
-    match joined {
-        HeaderResult::Refused(refusal) => show_refusal(refusal, answer),
-        HeaderResult::Header(header) => {
-            let params = MetadataParams {
-                header,
-                closure,
-                kind: checksum_type,
-                size: file_size,
-            };
-            let written = params.write_to_slice(source, destination, options, buf);
-            show_written(written, answer)
-        }
-    }
+    let written = with_header(joined, buf, |header, buf| {
+        let params = MetadataParams {
+            header,
+            closure,
+            kind: checksum_type,
+            size: file_size,
+        };
+        params.write_to_slice(source, destination, options, buf)
+    });
+    show(written, answer)
 }

@@ -4,9 +4,9 @@ ghost use Rattle.ranges.specs.Log.{entry_taken, entry_memory, running};
 ghost use Rattle.cfdp.specs.Shown.{shown, one_number};
 ghost use Rattle.cfdp.specs.Standing.{standing};
 
-use crate::{Answer, show_few, show_number, show_refusal};
+use crate::{Answer, show, show_few, show_refusal};
 use ranges::owed;
-use ranges::owed::{EntryResult, RunResult, State};
+use ranges::owed::State;
 
 // Where a run's offset stands, behind a refusal's values.
 const STOOD_AT: usize = 3;
@@ -16,10 +16,7 @@ pub fn cfdp_owed_entry(bytes: &[u8], at: usize, state: &mut State, answer: &mut 
     ensures stored { state.new ≡ entry_memory at bytes.now state.old }
 {
     let taken = owed::entry(bytes, at, state);
-    match taken {
-        EntryResult::Refused(refusal) => show_refusal(refusal, answer),
-        EntryResult::Taken(size) => show_number(size, answer),
-    }
+    show(taken, answer)
 }
 
 pub fn cfdp_owed_run(log: &[u8], from: usize, state: &mut State, answer: &mut Answer)
@@ -28,11 +25,11 @@ pub fn cfdp_owed_run(log: &[u8], from: usize, state: &mut State, answer: &mut An
 {
     let ran = owed::run(log, from, state);
     match ran {
-        RunResult::Refused { refusal, at } => {
-            show_refusal(refusal, answer);
-            answer[STOOD_AT] = at as u64;
+        Err(stopped) => {
+            show_refusal(stopped.refusal, answer);
+            answer[STOOD_AT] = stopped.at as u64;
         }
-        RunResult::End(at) => {
+        Ok(at) => {
             show_few(0, 0, 0, answer);
             answer[STOOD_AT] = at as u64;
         }

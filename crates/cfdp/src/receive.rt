@@ -1,25 +1,29 @@
 // Receiving NAKs from fragments of a stream, in a window that the caller keeps.
-ghost use Rattle.std.specs.Prelude.{◌≡◌};
+ghost use Rattle.std.specs.Prelude.{◌≡◌, Ok};
 ghost use Rattle.receiver.specs.Receiving.{outcome_of};
 ghost use Rattle.cfdp.specs.Received.{outcome_shown, called};
 
-use crate::{Answer, show_few, show_header, show_refusal};
-use receiver::Outcome;
+use crate::{Answer, Numbers, show_few, show_refusal};
+use fields::Refusal;
+use nak::Nak;
+
+// A NAK, or 1 for more wanted.
+fn show_given(given: Option<Nak>, answer: &mut Answer)
+    ensures { answer.new ≡ outcome_shown (outcome_of (Ok given)) }
+{
+    match given {
+        None => show_few(1, 0, 0, answer),
+        Some(nak) => nak.put(answer),
+    }
+}
 
 // What a call gives, as numbers: 1 for more wanted, since no receiver refuses with it.
-fn show_outcome(outcome: Outcome, answer: &mut Answer)
+fn show_outcome(outcome: Result<Option<Nak>, Refusal>, answer: &mut Answer)
     ensures { answer.new ≡ outcome_shown (outcome_of outcome) }
 {
     match outcome {
-        Outcome::More => show_few(1, 0, 0, answer),
-        Outcome::Refused(refusal) => show_refusal(refusal, answer),
-        Outcome::Nak(nak) => {
-            let header = nak.header;
-            let area = nak.area as u64;
-            let stop = nak.stop as u64;
-            let count = nak.count as u64;
-            show_header(header, nak.start, nak.end, area, stop, count, answer)
-        }
+        Err(refusal) => show_refusal(refusal, answer),
+        Ok(given) => show_given(given, answer),
     }
 }
 

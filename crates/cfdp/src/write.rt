@@ -1,14 +1,14 @@
 // Writing a NAK, with no list, normal pairs or large pairs, and how many pairs a packet holds.
 ghost use Rattle.std.specs.Prelude.{◌≡◌, [], length};
-ghost use Rattle.fields.specs.Answer.{and_then};
-ghost use Rattle.nak.specs.Counting.{count_answer, most_requests};
+ghost use Rattle.fields.specs.Answer.{and_then, answer_of};
+ghost use Rattle.nak.specs.Counting.{most_requests};
 ghost use Rattle.nak.specs.Writing.{writing_nak, nak_memory};
 ghost use Rattle.cfdp.specs.Given.{given_header, left_by};
 ghost use Rattle.cfdp.specs.Shown.{shown, one_number, written_numbers};
 
-use crate::{Answer, header_from, show_number, show_refusal, show_written};
-use header::{HeaderResult, LargeFileFlag};
-use nak::count::CountResult;
+use crate::{Answer, header_from, show, with_header};
+use fields::Refusal;
+use header::LargeFileFlag;
 use nak::{count, write};
 
 pub fn cfdp_nak_write(
@@ -23,13 +23,10 @@ pub fn cfdp_nak_write(
     ensures stored { buf.new ≡ left_by (given_header shape.now ids.now) (λ h. nak_memory h.file h start end [] buf.old) buf.old }
 {
     let joined = header_from(shape, 0, ids);
-    match joined {
-        HeaderResult::Refused(refusal) => show_refusal(refusal, answer),
-        HeaderResult::Header(header) => {
-            let written = write::write_no_segment_requests(header, start, end, buf);
-            show_written(written, answer)
-        }
-    }
+    let written = with_header(joined, buf, |header, buf| {
+        write::write_no_segment_requests(header, start, end, buf)
+    });
+    show(written, answer)
 }
 
 pub fn cfdp_nak_write_normal(
@@ -45,13 +42,10 @@ pub fn cfdp_nak_write_normal(
     ensures stored { buf.new ≡ left_by (given_header shape.now ids.now) (λ h. nak_memory LargeFileFlag.Normal h start end numbers.now buf.old) buf.old }
 {
     let joined = header_from(shape, 0, ids);
-    match joined {
-        HeaderResult::Refused(refusal) => show_refusal(refusal, answer),
-        HeaderResult::Header(header) => {
-            let written = write::write_normal_file_size(header, start, end, numbers, buf);
-            show_written(written, answer)
-        }
-    }
+    let written = with_header(joined, buf, |header, buf| {
+        write::write_numbers(header, start, end, numbers, buf)
+    });
+    show(written, answer)
 }
 
 pub fn cfdp_nak_write_large(
@@ -67,33 +61,16 @@ pub fn cfdp_nak_write_large(
     ensures stored { buf.new ≡ left_by (given_header shape.now ids.now) (λ h. nak_memory LargeFileFlag.Large h start end numbers.now buf.old) buf.old }
 {
     let joined = header_from(shape, 0, ids);
-    match joined {
-        HeaderResult::Refused(refusal) => show_refusal(refusal, answer),
-        HeaderResult::Header(header) => {
-            let written = write::write_large_file_size(header, start, end, numbers, buf);
-            show_written(written, answer)
-        }
-    }
-}
-
-fn show_count(res: CountResult, answer: &mut Answer)
-    ensures { answer.new ≡ shown one_number (count_answer res) }
-{
-    match res {
-        CountResult::Refused(refusal) => show_refusal(refusal, answer),
-        CountResult::Count(pairs) => show_number(pairs, answer),
-    }
+    let written = with_header(joined, buf, |header, buf| {
+        write::write_numbers(header, start, end, numbers, buf)
+    });
+    show(written, answer)
 }
 
 pub fn cfdp_nak_most(shape: &[u8; 10], ids: &[u64; 3], packet: usize, answer: &mut Answer)
     ensures { answer.new ≡ shown one_number (and_then (given_header shape.now ids.now) (λ h. most_requests h packet)) }
 {
     let joined = header_from(shape, 0, ids);
-    match joined {
-        HeaderResult::Refused(refusal) => show_refusal(refusal, answer),
-        HeaderResult::Header(header) => {
-            let most = count::calculate_max_segment_requests(packet, header);
-            show_count(most, answer)
-        }
-    }
+    let most = joined.and_then(|header| count::calculate_max_segment_requests(packet, header));
+    show(most, answer)
 }

@@ -14,12 +14,11 @@ use Rattle.fields.proofs.BigEndian.{be_length, number_back}
 use Rattle.fields.proofs.Judging.{Passed, all_passed}
 use Rattle.header.specs.declared.PduHeader.{PduHeader}
 use Rattle.header.specs.declared.flags.LargeFileFlag.{LargeFileFlag}
-use Rattle.header.specs.Flags.{crc_bit}
+use Rattle.header.specs.Flags.{crc_bit, crc_laws}
 use Rattle.header.specs.Header.{header_length, data_end}
 use Rattle.header.specs.Size.{size_width}
 use Rattle.header.specs.Condition.{reserved_condition}
 use Rattle.header.specs.Pdu.{directive_tests, pdu_over}
-use Rattle.header.proofs.FlagBits.{crc_bit_lem}
 use Rattle.header.proofs.Sizes.{size_high}
 use Rattle.header.proofs.Verifying.{pdu_sum, end_sum}
 use Rattle.header.proofs.Codes.{known_range}
@@ -46,7 +45,7 @@ filled_file e k p = ap (λ (x : PduHeader). x.file) p
 -- d is small
 filled_small : (e : Eof) → Passed (own_tests e) → (filled e).length < 2 ^ 16
 unfolding filled eof_length eof_size
-filled_small e p = omega (arith, fault_ten e.fault (good e p).fault_passed, size_high e.header.file, crc_bit_lem e.header.crc)
+filled_small e p = omega (arith, fault_ten e.fault (good e p).fault_passed, size_high e.header.file, crc_laws.small e.header.crc)
 
 -- ---- the fields
 

@@ -6,6 +6,7 @@ use mathlib.Core.List.{List, [], ◌∷◌, ◌++◌}
 use native.Mathlib.Omega.{arith}
 use lib.ListN.{length, take, drop, set, length-append, length-drop}
 use lib.Seq.{sets, length-sets, take_all}
+use Rattle.std.specs.Prelude.{Option}
 use borrow.Author.Tests.{ltb-false, not-false}
 use Rattle.fields.specs.BigEndian.{be_bytes, be_at, be_put}
 use Rattle.fields.specs.Answer.{Answer, accepted, told, Test, first_of, all_of}
@@ -24,7 +25,7 @@ use Rattle.header.proofs.Sizes.{size_high, size_fits}
 use Rattle.header.proofs.Conditions.{condition_small}
 use Rattle.header.proofs.Directives.{OwnRead, refused_own, read_own}
 use Rattle.eof.specs.declared.Eof.{Eof}
-use Rattle.eof.specs.declared.fault.FaultLocation.{FaultLocation}
+use Rattle.eof.specs.declared.fault.EntityIdTlv.{EntityIdTlv}
 use Rattle.eof.specs.Fault.{not_a_fault, fault_of, locating, fault_bytes, fault_length, fault_tests}
 use Rattle.eof.specs.Eof.{condition_in, after_size, eof_in}
 use Rattle.eof.specs.Reading.{read_tests, reading_eof}
@@ -85,7 +86,7 @@ module _ (h : PduHeader) (c : List ℕ) (stop a w : ℕ) (pe : stop ≡ data_end
       pub eof_other : (ns : List ℕ) → told ns ≡ locating Y → told ns ≡ answer
       eof_other ns e = refused_same ns behind (fault_of (after_size h.file c)) (eof_in h c) (e ∙ located) ∙ fault_next
 
-      pub eof_read : (x y : ℕ) (f : FaultLocation) → header_length h + length c ≡ stop → x ≡ be_at (take (6 - 2) (drop 2 c)) 0 4
+      pub eof_read : (x y : ℕ) (f : Option EntityIdTlv) → header_length h + length c ≡ stop → x ≡ be_at (take (6 - 2) (drop 2 c)) 0 4
           → y ≡ be_at (take (6 + w - 6) (drop 6 c)) 0 (size_width h.file) → accepted f ≡ locating Y
           → accepted (record { header = h; condition = condition_in c; file_checksum = x; size = y; fault = f }) ≡ answer
       unfolding eof_in
@@ -190,3 +191,11 @@ module _ (e : Eof) (at w : ℕ) (s b₃ b₄ : List ℕ) (room : at + eof_size e
       let l : length x₄ ≡ 6 + size_width e.header.file = simp (length-append, be_length) (omega arith) in
       let n : at + length x₄ ≡ at + 6 + w = omega (arith, l, pw) in
       q ∙ ap₂ (λ (b : List ℕ) (i : ℕ). sets b i (fault_bytes e.fault)) numbers_stored (sym n) ∙ sym (sets_append x₄ (fault_bytes e.fault) s at)
+
+-- ---- what the proofs of these functions cite
+
+pub ruleset for_put_data = (good, fault_goes, data_stored)
+
+pub ruleset for_judge_own = (bad_condition, bad_size, fault_decides)
+
+pub ruleset for_eof_in = (eof_short, long_enough, eof_reserved, eof_other)

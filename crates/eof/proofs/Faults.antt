@@ -6,6 +6,7 @@ use mathlib.Core.Bool.{true, false}
 use mathlib.Core.List.{List, [], ◌∷◌}
 use native.Mathlib.Omega.{arith}
 use lib.Dec.{lit<}
+use Rattle.std.specs.Prelude.{Option, Some, None}
 use lib.ListN.{length}
 use lib.Seq.{sets}
 use borrow.Author.Tests.{eq-eqb, ne_eqb}
@@ -18,8 +19,6 @@ use Rattle.fields.proofs.Judging.{Passed, told_is_refused}
 use Rattle.header.proofs.Judging.{sound_id}
 use Rattle.tlv.specs.declared.Field.{Field}
 use Rattle.tlv.specs.declared.Form.TheVariants.{Tlv}
-use Rattle.tlv.specs.declared.read.OnlyField.{OnlyField}
-use Rattle.tlv.specs.declared.read.OnlyField.TheVariants.{Only, Other}
 use Rattle.tlv.specs.Form.{field_bytes}
 use Rattle.tlv.specs.Reading.{only_field}
 use Rattle.tlv.specs.Writing.{number_put}
@@ -27,17 +26,15 @@ use Rattle.tlv.proofs.Reading.{is_only, is_field, field_inside, field_size}
 use Rattle.tlv.proofs.Writing.{field_length, put_number_sets}
 use Rattle.tlv.proofs.RoundTrip.{only_reads_back, number_reads_back}
 use Rattle.eof.specs.declared.fault.EntityIdTlv.{EntityIdTlv}
-use Rattle.eof.specs.declared.fault.FaultLocation.{FaultLocation}
-use Rattle.eof.specs.declared.fault.FaultLocation.TheVariants.{At, Nowhere}
 use Rattle.eof.specs.Fault.{width_of, field_width, not_a_fault, fault_of, locating, fault_bytes, fault_length, fault_tests}
 
 -- ---- the width of the one field
 
-pub no_width : (v : List ℕ) (o : OnlyField) → o ≡ Other → o ≡ only_field Tlv 6 v 0 → 0 ≡ field_width v
+pub no_width : (v : List ℕ) → None ≡ only_field Tlv 6 v 0 → 0 ≡ field_width v
 unfolding field_width
-no_width v o p e = ap width_of (sym p ∙ e)
+no_width v e = ap width_of e
 
-module _ (v : List ℕ) (f : Field) (e : Only f ≡ only_field Tlv 6 v 0) where
+module _ (v : List ℕ) (f : Field) (e : Some f ≡ only_field Tlv 6 v 0) where
   pub only_width : f.stop - f.start ≡ field_width v
   unfolding field_width
   only_width = ap width_of e
@@ -59,14 +56,14 @@ fills : (v : List ℕ) → 1 ≤ field_width v → 2 + field_width v ≡ length 
 unfolding field_width
 fills v l = go (only_field Tlv 6 v 0) refl
   where
-    go : (o : OnlyField) → o ≡ only_field Tlv 6 v 0 → 2 + field_width v ≡ length v
-    go (Only f) e = only_fills v f e
-    go Other e = absurd (omega (arith, ap width_of e))
+    go : (o : Option Field) → o ≡ only_field Tlv 6 v 0 → 2 + field_width v ≡ length v
+    go (Some f) e = only_fills v f e
+    go None e = absurd (omega (arith, ap width_of e))
 
 -- ---- found
 
 module _ (v : List ℕ) where
-  pub fault_nowhere : length v ≡ 0 → accepted Nowhere ≡ locating v
+  pub fault_nowhere : length v ≡ 0 → accepted None ≡ locating v
   unfolding locating fault_of
   fault_nowhere z = rw (eq-eqb _ _ z)
 
@@ -75,7 +72,7 @@ module _ (v : List ℕ) where
     unfolding locating
     fault_other k = rw (told_is_refused 28 _ refl, ne_eqb _ _ some, ← pw, k)
 
-    pub fault_found : (id : ℕ) → is_width w ≡ true → id ≡ be_at v 2 w → accepted (At (record { width = w; id = record { 0 = id } })) ≡ locating v
+    pub fault_found : (id : ℕ) → is_width w ≡ true → id ≡ be_at v 2 w → accepted (Some (record { width = w; id = record { 0 = id } })) ≡ locating v
     unfolding locating fault_of
     fault_found id k e =
         let s = width_small w k in
@@ -85,9 +82,9 @@ module _ (v : List ℕ) where
 
 -- ---- judged and stored
 
-module _ (f : FaultLocation) (t : EntityIdTlv) (p : f ≡ At t) where
-  pub tests_at : all_of (fault_tests (At t)) ≡ all_of (fault_tests f)
-  tests_at = ap (λ (x : FaultLocation). all_of (fault_tests x)) (sym p)
+module _ (f : Option EntityIdTlv) (t : EntityIdTlv) (p : f ≡ Some t) where
+  pub tests_at : all_of (fault_tests (Some t)) ≡ all_of (fault_tests f)
+  tests_at = ap (λ (x : Option EntityIdTlv). all_of (fault_tests x)) (sym p)
 
   pub length_at : 2 + t.width ≡ fault_length f
   length_at = ap fault_length (sym p)
@@ -97,19 +94,19 @@ module _ (f : FaultLocation) (t : EntityIdTlv) (p : f ≡ At t) where
   fault_stored s b at room good e =
       let i = sound_id t.width t.id (rw p at good) in
       let m = width_small t.width i.is_width_lem in
-      e ∙ put_number_sets Tlv s at 6 t.width t.id.0 m.most i.fits (rw p at room) ∙ ap (λ (x : FaultLocation). sets s at (fault_bytes x)) (sym p)
+      e ∙ put_number_sets Tlv s at 6 t.width t.id.0 m.most i.fits (rw p at room) ∙ ap (λ (x : Option EntityIdTlv). sets s at (fault_bytes x)) (sym p)
 
-pub fault_size : (f : FaultLocation) → length (fault_bytes f) ≡ fault_length f
-fault_size (At t) = field_length Tlv 6 (be_bytes t.width t.id.0) ∙ ap (λ (n : ℕ). 2 + n) (be_length t.width t.id.0)
-fault_size Nowhere = refl
+pub fault_size : (f : Option EntityIdTlv) → length (fault_bytes f) ≡ fault_length f
+fault_size (Some t) = field_length Tlv 6 (be_bytes t.width t.id.0) ∙ ap (λ (n : ℕ). 2 + n) (be_length t.width t.id.0)
+fault_size None = refl
 
-pub fault_ten : (f : FaultLocation) → Passed (fault_tests f) → fault_length f ≤ 10
-fault_ten (At t) good = omega (arith, (width_small t.width (sound_id t.width t.id good).is_width_lem).most)
-fault_ten Nowhere good = omega arith
+pub fault_ten : (f : Option EntityIdTlv) → Passed (fault_tests f) → fault_length f ≤ 10
+fault_ten (Some t) good = omega (arith, (width_small t.width (sound_id t.width t.id good).is_width_lem).most)
+fault_ten None good = omega arith
 
 -- ---- read back
 
-module _ (t : EntityIdTlv) (good : Passed (fault_tests (At t))) where
+module _ (t : EntityIdTlv) (good : Passed (fault_tests (Some t))) where
   abbrev X : List ℕ
   X = be_bytes t.width t.id.0
 
@@ -129,15 +126,15 @@ module _ (t : EntityIdTlv) (good : Passed (fault_tests (At t))) where
   at_good : (not_a_fault Y).holds ≡ false
   at_good = rw (ne_eqb _ _ some_bytes, width_back, (sound_id t.width t.id good).is_width_lem)
 
-  at_back : fault_of Y ≡ At t
+  at_back : fault_of Y ≡ Some t
   unfolding fault_of
   at_back = rw (ne_eqb _ _ some_bytes, width_back, number_reads_back Tlv 6 t.width t.id.0 (sound_id t.width t.id good).fits)
 
-pub fault_good : (f : FaultLocation) → Passed (fault_tests f) → (not_a_fault (fault_bytes f)).holds ≡ false
-fault_good (At t) good = at_good t good
-fault_good Nowhere good = refl
+pub fault_good : (f : Option EntityIdTlv) → Passed (fault_tests f) → (not_a_fault (fault_bytes f)).holds ≡ false
+fault_good (Some t) good = at_good t good
+fault_good None good = refl
 
-pub fault_back : (f : FaultLocation) → Passed (fault_tests f) → fault_of (fault_bytes f) ≡ f
+pub fault_back : (f : Option EntityIdTlv) → Passed (fault_tests f) → fault_of (fault_bytes f) ≡ f
 unfolding fault_of
-fault_back (At t) good = at_back t good
-fault_back Nowhere good = refl
+fault_back (Some t) good = at_back t good
+fault_back None good = refl

@@ -1,5 +1,5 @@
 -- Worked examples, by hand from section 5.2.2 and document 02: what is given, and the numbers that it gives.
-use Rattle.std.specs.Prelude.{ℕ, List, [], ◌∷◌, ◌++◌, take, set, replicate}
+use Rattle.std.specs.Prelude.{ℕ, List, [], ◌∷◌, ◌++◌, take, set, replicate, Option, Some, None}
 use Rattle.fields.specs.Answer.{Answer, accepted, short, refused}
 use Rattle.fields.specs.Staged.{run}
 use Rattle.header.specs.declared.PduHeader.{PduHeader}
@@ -16,8 +16,7 @@ use Rattle.header.specs.declared.flags.TransmissionMode.TheVariants.{Acknowledge
 use Rattle.header.specs.Flags.{direction_bit}
 use Rattle.header.specs.Header.{data_end}
 use Rattle.eof.specs.declared.Eof.{Eof}
-use Rattle.eof.specs.declared.fault.FaultLocation.{FaultLocation}
-use Rattle.eof.specs.declared.fault.FaultLocation.TheVariants.{At, Nowhere}
+use Rattle.eof.specs.declared.fault.EntityIdTlv.{EntityIdTlv}
 use Rattle.eof.specs.Reading.{reading_eof}
 use Rattle.eof.specs.Writing.{writing_eof, eof_memory}
 
@@ -27,9 +26,9 @@ pub data Given : Type 0 where
   write : Eof → ℕ → Given
 
 -- a fault location as numbers: width and identifier, or nothing
-abbrev pub fault_numbers : FaultLocation → List ℕ
-fault_numbers (At t) = t.width ∷ t.id.0 ∷ []
-fault_numbers Nowhere = []
+abbrev pub fault_numbers : Option EntityIdTlv → List ℕ
+fault_numbers (Some t) = t.width ∷ t.id.0 ∷ []
+fault_numbers None = []
 
 -- an EOF that was read as numbers: 0; direction; source, sequence number, destination; condition code, file checksum, file size; E; the fault location
 abbrev pub read_numbers : Answer Eof → List ℕ
@@ -67,11 +66,11 @@ header file crc =
     }
 
 -- a normal one without CRC
-abbrev eof : ℕ → ℕ → FaultLocation → Eof
+abbrev eof : ℕ → ℕ → Option EntityIdTlv → Eof
 eof condition size fault = record { header = header Normal NoCrc; condition = condition; file_checksum = 0x01020304; size = size; fault = fault }
 
-abbrev at : ℕ → ℕ → FaultLocation
-at width id = At (record { width = width; id = record { 0 = id } })
+abbrev at : ℕ → ℕ → Option EntityIdTlv
+at width id = Some (record { width = width; id = record { 0 = id } })
 
 -- no error, a file of 1,000 bytes
 abbrev pub A : List ℕ
@@ -125,10 +124,10 @@ cases =
     (read (set A 7 0x0A), 7 ∷ 10 ∷ []) ∷
     (read (set A 0 0x30), 21 ∷ []) ∷
     (read (take 16 A), 1 ∷ 16 ∷ 17 ∷ []) ∷
-    (write (eof 0 1000 Nowhere) 19, (0 ∷ 0 ∷ 10 ∷ 17 ∷ []) ++ (A ++ (7 ∷ 7 ∷ []))) ∷
+    (write (eof 0 1000 None) 19, (0 ∷ 0 ∷ 10 ∷ 17 ∷ []) ++ (A ++ (7 ∷ 7 ∷ []))) ∷
     (write eof_of_b 27, (0 ∷ 0 ∷ 20 ∷ 27 ∷ []) ++ B) ∷
-    (write (eof 13 4294967296 Nowhere) 1, 16 ∷ 7 ∷ []) ∷
-    (write (eof 16 0 Nowhere) 1, 16 ∷ 7 ∷ []) ∷
+    (write (eof 13 4294967296 None) 1, 16 ∷ 7 ∷ []) ∷
+    (write (eof 16 0 None) 1, 16 ∷ 7 ∷ []) ∷
     (write (eof 0 4294967296 (at 3 0)) 1, 29 ∷ 7 ∷ []) ∷
     (write (eof 0 4294967295 (at 3 0)) 1, 3 ∷ 3 ∷ 7 ∷ []) ∷
     (write (eof 0 0 (at 1 256)) 1, 14 ∷ 256 ∷ 1 ∷ 7 ∷ []) ∷

@@ -1,17 +1,14 @@
 -- What is proved of this layer, beside the demand that it meets.
-use Rattle.std.specs.Prelude.{ℕ, ◌^◌, ◌<◌, ◌≡◌, List, ◌++◌, map, length}
-use Rattle.fields.specs.Answer.{accepted}
+use Rattle.std.specs.Prelude.{ℕ, ◌^◌, ◌<◌, ◌≡◌, List, ◌++◌, map, length, Result, Ok, Err}
+use Rattle.fields.specs.declared.refusal.Refusal.{Refusal}
+use Rattle.fields.specs.Answer.{accepted, answer_of}
 use Rattle.fields.specs.Staged.{run}
 use Rattle.fields.specs.Demand3.{Demand3, CodeDemand3}
 use Rattle.header.specs.declared.PduHeader.{PduHeader}
 use Rattle.header.specs.declared.pdu.PduWritten.{PduWritten}
 use Rattle.header.specs.Pdu.{pdu_over}
 use Rattle.eof.specs.declared.Eof.{Eof}
-use Rattle.eof.specs.declared.EofResult.{EofResult}
-use Rattle.eof.specs.declared.EofResult.TheVariants.{Eof as Read, Refused}
-use Rattle.eof.specs.declared.fault.FaultResult.{FaultResult}
-use Rattle.eof.specs.Fault.{fault_answer}
-use Rattle.eof.specs.Reading.{eof_answer, reading_eof}
+use Rattle.eof.specs.Reading.{reading_eof}
 use Rattle.eof.specs.Writing.{eof_data, writing_eof, eof_memory}
 use Rattle.eof.specs.Cases.{cases, gives}
 
@@ -28,8 +25,8 @@ WrittenReadsBack =
 -- DEMAND 2: so does the buffer that an accepted write left, by the code's own answer
 abbrev pub CodeReadsBack : Type 0
 CodeReadsBack =
-    (e : Eof) (s : List ℕ) (w : PduWritten) (r : EofResult) → e.file_checksum < 2 ^ 32 → writing_eof e (length s) ≡ accepted w
-    → eof_answer r ≡ run reading_eof (eof_memory e s) → r ≡ Read (under w.header e)
+    (e : Eof) (s : List ℕ) (w : PduWritten) (r : Result Eof Refusal) → e.file_checksum < 2 ^ 32 → writing_eof e (length s) ≡ accepted w
+    → answer_of r ≡ run reading_eof (eof_memory e s) → r ≡ Ok (under w.header e)
 
 -- DEMAND 3: at most four refusals as short
 abbrev pub EofDemand3 : Type 0
@@ -37,14 +34,7 @@ EofDemand3 = Demand3 (run reading_eof) 4
 
 -- and its first three parts, of the code's own answers
 abbrev pub EofCodeDemand3 : Type 0
-EofCodeDemand3 = CodeDemand3 (run reading_eof) eof_answer Refused
-
--- 'How much each promise says': the answers leave one value
-abbrev pub OneEofResult : Type 0
-OneEofResult = (a b : EofResult) → eof_answer a ≡ eof_answer b → a ≡ b
-
-abbrev pub OneFaultResult : Type 0
-OneFaultResult = (a b : FaultResult) → fault_answer a ≡ fault_answer b → a ≡ b
+EofCodeDemand3 = CodeDemand3 (run reading_eof) answer_of Err
 
 -- the worked examples
 abbrev pub WorkedCases : Type 0

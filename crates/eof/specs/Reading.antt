@@ -1,21 +1,14 @@
 -- Reading an EOF (document 02, C-01): 'The reading order up to the known-directive check is the NAK's'; 'Refusals on reading, after 8 and the length check: 16 .. 28'.
 use Rattle.std.specs.Prelude.{ℕ, ◌+◌, List, [], ◌∷◌}
-use Rattle.fields.specs.Answer.{Answer, accepted, told, Test}
-use Rattle.fields.specs.Refusal.{paper}
+use Rattle.fields.specs.Answer.{Test}
 use Rattle.fields.specs.Staged.{Staged, accept, ◌>>=◌, ◌>>◌, tests}
 use Rattle.header.specs.declared.PduHeader.{PduHeader}
 use Rattle.header.specs.Header.{header_length, data_end}
 use Rattle.header.specs.Directive.{data_short, reading_directive}
 use Rattle.header.specs.Condition.{reserved_condition}
 use Rattle.eof.specs.declared.Eof.{Eof}
-use Rattle.eof.specs.declared.EofResult.{EofResult}
-use Rattle.eof.specs.declared.EofResult.TheVariants.{Eof as Read, Refused}
 use Rattle.eof.specs.Fault.{not_a_fault}
 use Rattle.eof.specs.Eof.{eof_code, least_size, condition_in, after_size, eof_in}
-
-abbrev pub eof_answer : EofResult → Answer Eof
-eof_answer (Read e) = accepted e
-eof_answer (Refused r) = told (paper r)
 
 -- of the data c: E below h + 6 + 4 or 8 (6, needs that); 16; 28
 unfoldable pub read_tests : PduHeader → List ℕ → List Test

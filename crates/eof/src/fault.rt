@@ -1,14 +1,12 @@
 // The fault location of an EOF: nothing, or one entity identifier field, type, length and value (the Rust's `EntityIdTlv`).
 ghost use Rattle.std.specs.Prelude.{◌≡◌, ◌+◌, ◌≤◌, length};
 ghost use Rattle.std.proofs.lemmas.List.Edits.{sets};
-ghost use Rattle.fields.specs.Answer.{all_of};
+ghost use Rattle.fields.specs.Answer.{all_of, answer_of};
 ghost use Rattle.fields.proofs.Judging.{Passed};
-ghost use Rattle.header.specs.Answers.{judged_answer};
-ghost use Rattle.eof.specs.Fault.{fault_answer, field_width, locating, fault_length, fault_bytes, fault_tests};
+ghost use Rattle.eof.specs.Fault.{field_width, locating, fault_length, fault_bytes, fault_tests};
 
 use fields::{EntityId, Refusal, be, field};
-use header::{Judged, judge};
-use tlv::read::OnlyField;
+use header::judge;
 use tlv::{Form, read, write};
 
 // The type of an entity identifier field.
@@ -17,86 +15,72 @@ const ENTITY_ID: u8 = 6;
 // The bytes before its value: type and length.
 const HEAD_LEN: usize = 2;
 
-// An entity identifier, with the width that its field has.
-#[derive(Clone, Copy)]
+// A fault location: an entity identifier, with the width that its field has.
+#[derive(Clone, Copy, PartialEq, Eq, Debug)]
 pub struct EntityIdTlv {
     pub width: u8,
     pub id: EntityId,
 }
 
-#[derive(Clone, Copy)]
-pub enum FaultLocation {
-    At(EntityIdTlv),
-    Nowhere,
-}
-
-// A fault location, or why the bytes are none.
-#[derive(Clone, Copy)]
-pub enum FaultResult {
-    Fault(FaultLocation),
-    Refused(Refusal),
-}
-
 // The bytes of the value of the one entity identifier field that the bytes are; 0, which is no width, where they are something else.
+// Kept: a number, since the definition `field_width` says this 0, and the test behind it refuses it with every other that is no width.
+#[tactic(auto, using(crate::proofs::Faults::no_width, crate::proofs::Faults::only_width, crate::proofs::Faults::only_forwards))]
 fn field_width(rest: &[u8]) -> u8
     ensures { result ≡ field_width rest.now }
 {
-    let found = read::only_field(Form::Tlv, ENTITY_ID, rest, 0);
-    match found {
-        OnlyField::Other => 0,
-        OnlyField::Only(only) => (only.stop - only.start) as u8,
-    }
+    let Some(only) = read::only_field(Form::Tlv, ENTITY_ID, rest, 0) else {
+        return 0;
+    };
+    (only.stop - only.start) as u8
 }
 
 // 28: the fault location that all of the bytes are.
-pub fn fault_in(rest: &[u8]) -> FaultResult
-    ensures { fault_answer result ≡ locating rest.now }
+#[tactic(auto, using(crate::proofs::Faults::fault_nowhere, crate::proofs::Faults::fault_other, crate::proofs::Faults::fault_found))]
+pub fn fault_in(rest: &[u8]) -> Result<Option<EntityIdTlv>, Refusal>
+    ensures { answer_of result ≡ locating rest.now }
 {
     if rest.len() == 0 {
-        return FaultResult::Fault(FaultLocation::Nowhere);
+        return Ok(None);
     }
     let width = field_width(rest);
     if !field::is_width(width) {
-        return FaultResult::Refused(Refusal::InvalidFaultLocation);
+        return Err(Refusal::InvalidFaultLocation);
     }
     let id = be::read_be(rest, HEAD_LEN, width as usize);
-    FaultResult::Fault(FaultLocation::At(EntityIdTlv {
+    Ok(Some(EntityIdTlv {
         width,
         id: EntityId(id),
     }))
 }
 
-impl FaultLocation {
-    // 3, then 14: whether its width and its identifier are allowed.
-    pub fn judged(self) -> Judged
-        ensures { judged_answer result ≡ all_of (fault_tests self) }
-    {
-        match self {
-            FaultLocation::Nowhere => Judged::Passed,
-            FaultLocation::At(tlv) => judge::judge_entity(tlv.width, tlv.id),
-        }
+// 3, then 14: whether the width and the identifier of a fault location are allowed.
+#[tactic(auto, using(crate::proofs::Faults::tests_at))]
+pub fn judge_fault(fault: Option<EntityIdTlv>) -> Result<(), Refusal>
+    ensures { answer_of result ≡ all_of (fault_tests fault) }
+{
+    match fault {
+        None => Ok(()),
+        Some(tlv) => judge::judge_entity(tlv.width, tlv.id),
     }
+}
 
-    // Its bytes, at most 2 + 255.
-    pub fn len(self) -> usize
-        ensures { (result ≡ fault_length self) × (result ≤ 257) }
-    {
-        match self {
-            FaultLocation::Nowhere => 0,
-            FaultLocation::At(tlv) => HEAD_LEN + (tlv.width as usize),
-        }
+// The bytes of a fault location, at most 2 + 255.
+#[tactic(auto, using(crate::proofs::Faults::length_at))]
+pub fn fault_len(fault: Option<EntityIdTlv>) -> usize
+    ensures { (result ≡ fault_length fault) × (result ≤ 257) }
+{
+    match fault {
+        None => 0,
+        Some(tlv) => HEAD_LEN + (tlv.width as usize),
     }
+}
 
-    // Its bytes, from `at` on.
-    pub(crate) fn put(self, at: usize, buf: &mut [u8])
-        requires { (at + fault_length self ≤ length buf.old) × Passed (fault_tests self) }
-        ensures { buf.new ≡ sets buf.old at (fault_bytes self) }
-    {
-        match self {
-            FaultLocation::Nowhere => {}
-            FaultLocation::At(tlv) => {
-                write::put_number(Form::Tlv, buf, at, ENTITY_ID, tlv.width as usize, tlv.id.0);
-            }
-        }
+// Stores them, from `at` on.
+pub(crate) fn put_fault(fault: Option<EntityIdTlv>, at: usize, buf: &mut [u8])
+    requires { (at + fault_length fault ≤ length buf.old) × Passed (fault_tests fault) }
+    ensures { buf.new ≡ sets buf.old at (fault_bytes fault) }
+{
+    if let Some(tlv) = fault {
+        write::put_number(Form::Tlv, buf, at, ENTITY_ID, tlv.width as usize, tlv.id.0);
     }
 }

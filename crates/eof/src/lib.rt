@@ -1,7 +1,7 @@
 // Layer 3 of the codec: the EOF PDU (the Rust's `cfdp/pdu/eof.rs`), read and written.
 #![tactic(auto)]
 
-use fault::FaultLocation;
+use fault::EntityIdTlv;
 use fields::Refusal;
 use header::PduHeader;
 
@@ -16,7 +16,7 @@ pub const EOF_CODE: u8 = 4;
 pub const SIZE_AT: usize = 6;
 
 // An EOF: one that was read, or is to be written. The Rust's names stand beside those that differ.
-#[derive(Clone, Copy)]
+#[derive(Clone, Copy, PartialEq, Eq, Debug)]
 pub struct Eof {
     pub header: PduHeader,
     // condition_code
@@ -26,12 +26,5 @@ pub struct Eof {
     // file_size
     pub size: u64,
     // fault_location
-    pub fault: FaultLocation,
-}
-
-// An EOF, or why there is none.
-#[derive(Clone, Copy)]
-pub enum EofResult {
-    Eof(Eof),
-    Refused(Refusal),
+    pub fault: Option<EntityIdTlv>,
 }

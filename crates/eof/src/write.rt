@@ -1,63 +1,45 @@
 // Writing an EOF.
 ghost use Rattle.std.specs.Prelude.{◌≡◌, ◌+◌, ◌≤◌, length};
 ghost use Rattle.std.proofs.lemmas.List.Edits.{sets};
-ghost use Rattle.fields.specs.Answer.{first_of, all_of};
+ghost use Rattle.fields.specs.Answer.{first_of, all_of, answer_of};
 ghost use Rattle.fields.proofs.Judging.{Passed};
-ghost use Rattle.header.specs.Answers.{judged_answer};
-ghost use Rattle.header.specs.Pdu.{data_answer, write_answer};
 ghost use Rattle.eof.specs.Writing.{eof_data, eof_size, eof_length, own_tests, writing_eof, eof_memory};
 
-use crate::{EOF_CODE, Eof, SIZE_AT};
-use fields::be;
+use crate::{EOF_CODE, Eof, SIZE_AT, fault};
+use fields::{Refusal, be};
 use header::condition::judge_condition;
-use header::pdu::{DataLength, PduWritten, WriteResult};
-use header::{CRC_LEN, Direction, Judged, LengthResult, size};
+use header::pdu::PduWritten;
+use header::{CRC_LEN, Direction, Flag, size};
 
 // The EOF's own tests, which stand behind the record's: 16, 29, and 3 and 14 for the fault location.
-fn judge_own(eof: Eof) -> Judged
-    ensures { judged_answer result ≡ all_of (own_tests eof) }
+#[tactic(auto, using(fields::proofs::Handed::handed_on, crate::proofs::Data::for_judge_own))]
+fn judge_own(eof: Eof) -> Result<(), Refusal>
+    ensures { answer_of result ≡ all_of (own_tests eof) }
 {
-    let header = eof.header;
-    let file = header.file;
-    let fault = eof.fault;
-    let condition = judge_condition(eof.condition);
-    if let Judged::Refused(refusal) = condition {
-        return Judged::Refused(refusal);
-    }
-    let size = size::judge_file_size(file, eof.size);
-    if let Judged::Refused(refusal) = size {
-        return Judged::Refused(refusal);
-    }
-    fault.judged()
+    judge_condition(eof.condition)?;
+    size::judge_file_size(eof.header.file, eof.size)?;
+    fault::judge_fault(eof.fault)
 }
 
 // What they say: d.
-fn data_length(eof: Eof) -> DataLength
-    ensures { data_answer result ≡ first_of (own_tests eof) (eof_length eof) }
+#[tactic(auto, using(fields::proofs::Handed::handed_on, crate::proofs::Data::no_length, crate::proofs::Data::has_length))]
+fn data_length(eof: Eof) -> Result<u16, Refusal>
+    ensures { answer_of result ≡ first_of (own_tests eof) (eof_length eof) }
 {
     let header = eof.header;
-    let file = header.file;
-    let crc = header.crc;
-    let fault = eof.fault;
-    let judged = judge_own(eof);
-    match judged {
-        Judged::Refused(refusal) => DataLength::Refused(refusal),
-        Judged::Passed => {
-            let content = SIZE_AT + size::size_width(file) + fault.len();
-            let length = content + CRC_LEN * (crc.bit() as usize);
-            DataLength::Length(length as u16)
-        }
-    }
+    judge_own(eof)?;
+    let content = SIZE_AT + size::size_width(header.file) + fault::fault_len(eof.fault);
+    let length = content + CRC_LEN * (header.crc.bit() as usize);
+    Ok(length as u16)
 }
 
 // The data, from `at` on.
+#[tactic(auto, using(crate::proofs::Data::for_put_data), unfolding(crate::specs::Writing::eof_size))]
 fn put_data(eof: Eof, at: usize, buf: &mut [u8])
     requires { (at + eof_size eof ≤ length buf.old) × Passed (own_tests eof) }
     ensures { buf.new ≡ sets buf.old at (eof_data eof) }
 {
-    let header = eof.header;
-    let file = header.file;
-    let fault = eof.fault;
+    let file = eof.header.file;
     let third = at + 2;
     let fourth = at + SIZE_AT;
     let last = fourth + size::size_width(file);
@@ -66,26 +48,22 @@ fn put_data(eof: Eof, at: usize, buf: &mut [u8])
     buf[at + 1] = condition;
     be::write_be(buf, third, 4, eof.file_checksum as u64);
     size::write_size(buf, fourth, file, eof.size);
-    fault.put(last, buf);
+    fault::put_fault(eof.fault, last, buf);
 }
 
 impl Eof {
     // The header as it was written, and the written length. A refused write changes no byte, an accepted one the PDU's bytes and no others.
-    pub fn write_to_slice(self, buf: &mut [u8]) -> WriteResult
-        ensures answered { write_answer result ≡ writing_eof self (length buf.old) }
+    // Kept: these steps stand in eof, ack and metadata: a trait with tests, length and data, and the law that ties them, is longer.
+    pub fn write_to_slice(self, buf: &mut [u8]) -> Result<PduWritten, Refusal>
+        ensures answered { answer_of result ≡ writing_eof self (length buf.old) }
         ensures stored { buf.new ≡ eof_memory self buf.old }
     {
         let header = self.header.with_direction(Direction::TowardsReceiver);
         let own = data_length(self);
         let header = header.with_data(own);
-        let begun = header.begin_write(own, buf);
-        match begun {
-            LengthResult::Refused(refusal) => WriteResult::Refused(refusal),
-            LengthResult::Length(length) => {
-                put_data(self, header.header_len(), buf);
-                header.seal(buf);
-                WriteResult::Written(PduWritten { header, length })
-            }
-        }
+        let length = header.begin_write(own, buf)?;
+        put_data(self, header.header_len(), buf);
+        header.seal(buf);
+        Ok(PduWritten { header, length })
     }
 }

@@ -4,13 +4,13 @@ use mathlib.Core.Path.{◌≡◌, refl, sym, ap, ap₂, ◌∙◌}
 use mathlib.Core.Bool.{Bool, true, false, ◌&&◌, and-false}
 use mathlib.Core.List.{List, [], ◌∷◌, ◌++◌, append_assoc, append-nil}
 use Prim.Native.Nat.{ℕ, zero, suc, ◌+◌, ◌-◌, ◌*◌, ◌/◌, ◌%◌, ◌^◌, ◌<◌, ◌≤◌}
-use native.Mathlib.Nat.{mul_assoc, mul_comm, mul-one, add-mul, add_assoc, div-add-mod', pow-suc, pow-le-pow_right, div-lt_iff_lt-mul, add-suc, suc-add, add-zero, zero-add, sub-zero, lt_of_not-le, lt_of_lt_of_le}
+use native.Mathlib.Nat.{mul_assoc, mul_comm, mul-one, add-mul, add_assoc, div-add-mod', pow-suc, pow-le-pow_right, one-le-pow, div-lt_iff_lt-mul, add-suc, suc-add, add-zero, zero-add, lt_of_not-le, lt_of_lt_of_le}
 use native.Mathlib.Decide.{dec_le}
 use native.Mathlib.Numerals.{add-one}
 use native.Mathlib.Omega.{arith}
 use lib.Arith.{digits_lt, lt-one}
 use lib.Dec.{leb}
-use lib.ListN.{length, take, drop, set, get_or, length-append, length-take, length-drop, length-set, take-append-drop}
+use lib.ListN.{length, take, drop, set, get_or, length-append, length-take, length-drop, length-set, take-append-drop, drop_of_length-le}
 use lib.Seq.{drop-cons, append_snoc, take-set-le, drop-set-lt, get_or-set_same, take_at, drop_at, take-take, drop-drop, get_or-drop, sets, sets-eq, length-sets}
 use borrow.Author.Tests.{le-leb, lt-leb, leb-true}
 use Rattle.std.specs.Prelude.{if◌then◌else◌}
@@ -72,24 +72,21 @@ room i v b h l k =
     let m : 256 ^ i ≤ 256 ^ 7 = pow-le-pow_right (omega arith) {i = i} {j = 7} (omega arith) in
     omega arith
 
-pub read_start : (s : List ℕ) (at w : ℕ) → be_from 0 (take (w - 0) (drop (at + 0) s)) ≡ number_at s at w
+-- the part of the slice that the loop goes over
+pub span : (s : List ℕ) (at w : ℕ) → at + w ≤ length s → length (take (at + w - at) (drop at s)) ≡ w
+span s at w h = simp (length-take, length-drop) (omega arith)
+
+pub read_start : (s : List ℕ) (at w : ℕ) → be_from 0 (take (at + w - at) (drop at s)) ≡ number_at s at w
 unfolding number_at be_value
-read_start s at w = rw (sub-zero, add-zero)
+read_start s at w = let e : at + w - at ≡ w = omega arith in rw e
 
-pub read_turn : (v : ℕ) (s : List ℕ) (at w i b : ℕ) → i < w → at + w ≤ length s → b ≡ get_or s (at + i) 0
-    → be_from (v * 256 + b) (take (w - (i + 1)) (drop (at + (i + 1)) s)) ≡ be_from v (take (w - i) (drop (at + i) s))
+pub read_turn : (v : ℕ) (bs : List ℕ) (i : ℕ) → i < length bs → be_from (v * 256 + get_or bs i 0) (drop (i + 1) bs) ≡ be_from v (drop i bs)
 unfolding be_from
-read_turn v s at w i b h k p =
-    let e : w - i ≡ suc (w - (i + 1)) = omega arith in
-    let f : at + (i + 1) ≡ suc (at + i) = omega arith in
-    let l : at + i < length s = omega arith in
-    rw (e, f, p, drop-cons s (at + i) 0 l)
+read_turn v bs i h = rw (add-one, drop-cons bs i 0)
 
-pub read_done : (v m : ℕ) (s : List ℕ) (at w i : ℕ) → w ≤ i → be_from v (take (w - i) (drop (at + i) s)) ≡ m → v ≡ m
+pub read_done : (v : ℕ) (bs : List ℕ) (i : ℕ) → length bs ≤ i → v ≡ be_from v (drop i bs)
 unfolding be_from
-read_done v m s at w i h e =
-    let z : w - i ≡ 0 = omega arith in
-    rw z at e
+read_done v bs i h = rw drop_of_length-le
 
 -- ---- bytes are below a power of 256
 
@@ -176,31 +173,14 @@ put_turn s at n v h k =
     let e : n ≡ suc (n - 1) = omega arith in
     put_less s at (n - 1) v (omega arith) ∙ ap (λ (m : ℕ). overwritten s at m v) (sym e)
 
-pub put_done : (s t : List ℕ) (at n v : ℕ) → n ≡ 0 → overwritten s at n v ≡ t → s ≡ t
+pub put_done : (s : List ℕ) (at v : ℕ) → s ≡ overwritten s at 0 v
 unfolding overwritten be_bytes
-put_done s t at n v z e = sym (take-append-drop at s) ∙ (rw (z, add-zero) at e)
+put_done s at v = rw add-zero (sym (take-append-drop at s))
 
 -- ---- any place
 
-pub lies_wide : (n at w : ℕ) → 8 < w → false ≡ lies_in n at w
-unfolding lies_in
-lies_wide n at w h = rw (lt-leb w 8 h)
-
-pub lies_short : (n at w : ℕ) → w ≤ 8 → n < w → false ≡ lies_in n at w
-unfolding lies_in
-lies_short n at w h k =
-    let l : n < at + w = omega arith in
-    rw (le-leb w 8 h, lt-leb (at + w) n l)
-
-pub lies_at : (n at w : ℕ) → w ≤ 8 → w ≤ n → leb at (n - w) ≡ lies_in n at w
-unfolding lies_in
-lies_at n at w h k =
-    elim (dec_le (at + w) n) [
-      | yes l ↦ rw (le-leb w 8 h, le-leb (at + w) n l) (le-leb at (n - w) (omega arith))
-      | no g ↦
-          let l : n < at + w = lt_of_not-le g in
-          rw (le-leb w 8 h, lt-leb (at + w) n l) (lt-leb at (n - w) (omega arith))
-    ]
+pub power_some : (w : ℕ) → 0 < 256 ^ w
+power_some w = one-le-pow w 256 (omega arith)
 
 pub record Lies (n at w : ℕ) : Type 0 where
   pub most : w ≤ 8
@@ -240,10 +220,6 @@ put_nowhere s at w v e = rw e
 
 pub put_beyond : (s : List ℕ) (at w v : ℕ) → length s < at + w → s ≡ be_put s at w v
 put_beyond s at w v l = put_nowhere s at w v (lies_not (length s) at w l)
-
-pub put_nothing : (s : List ℕ) (at w v : ℕ) → lies_in (length s) at w ≡ true → fits_width w v ≡ false → s ≡ be_put s at w v
-unfolding be_put
-put_nothing s at w v e f = rw (e, f)
 
 pub put_some : (s : List ℕ) (at w v : ℕ) → lies_in (length s) at w ≡ true → fits_width w v ≡ true → overwritten s at w v ≡ be_put s at w v
 unfolding be_put

@@ -11,6 +11,9 @@ use lib.ListN.{length, get_or, drop}
 use lib.Seq.{sets, sets-eq}
 use borrow.Author.Tests.{eqb-true}
 use Rattle.std.specs.Prelude.{if◌then◌else◌}
+use Rattle.fields.specs.declared.refusal.Refusal.{Refusal}
+use Rattle.fields.specs.declared.refusal.Refusal.TheVariants.{FromSliceTooSmall}
+use Rattle.fields.specs.Refusal.{paper}
 use Rattle.fields.specs.Answer.{Answer, accepted, short, refused, told, and_then, Test, first_of, leaves, all_of}
 
 -- every test is false
@@ -85,6 +88,13 @@ told_is_short l n = refl
 pub told_is_refused : {A : Type 0} (n : ℕ) (ms : List ℕ) → eqb n 1 ≡ false → ◌≡◌ {A = Answer A} (told (n ∷ ms)) (refused (n ∷ ms))
 unfolding told
 told_is_refused n ms e = rw e
+
+-- a refusal by its variant: all but the one for a short buffer
+pub told_other_refusal : {A : Type 0} (r : Refusal) → ((found need : ℕ) → r ≡ FromSliceTooSmall found need → ⊥)
+    → ◌≡◌ {A = Answer A} (told (paper r)) (refused (paper r))
+unfolding told
+told_other_refusal (FromSliceTooSmall found need) h = absurd (h found need refl)
+told_other_refusal _ h = refl
 
 -- what is so of both is so of a refusal
 pub told_cases : {A X : Type 0} (f : Answer A → X) (x : X) (ns : List ℕ) → (get_or ns 0 0 ≡ 1 → f (short (get_or ns 1 0) (get_or ns 2 0)) ≡ x)

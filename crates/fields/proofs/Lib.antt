@@ -9,4 +9,5 @@ pub mod OneToOne
 pub mod Judging
 pub mod Staged
 pub mod Demand3
+pub mod Handed
 pub mod Waiting

@@ -6,8 +6,8 @@ use mathlib.Core.Bool.{Bool, true, false, ◌&&◌}
 use mathlib.Core.List.{List}
 use lib.Dec.{eqb}
 use lib.ListN.{length, get_or}
-use Rattle.std.specs.Prelude.{if◌then◌else◌}
-use Rattle.fields.specs.Answer.{Answer, accepted, short, refused, told}
+use Rattle.std.specs.Prelude.{if◌then◌else◌, Result, Ok, Err}
+use Rattle.fields.specs.Answer.{Answer, accepted, short, refused, told, answer_of, OneAnswer}
 use Rattle.fields.specs.Refusal.{paper, numbers_of, listed}
 use Rattle.fields.specs.declared.refusal.Refusal.{Refusal}
 use Rattle.fields.specs.declared.refusal.Refusal.TheVariants.{FromSliceTooSmall, CfdpVersionMissmatch, InvalidEntityLen, InvalidTransactionSeqNumLen, Checksum, DataFieldTooSmall, InvalidDirectiveType, WrongDirectiveType, InvalidStartOrEndOfScope, TooManySegmentRequests, ToSliceTooSmall, OddCount, SourceDestIdLenMissmatch, ValueTooLargeForWidth, TooSmallForPduHeader, InvalidConditionCode, InvalidAckedDirectiveCode, PairOutOfOrder, EntryOutOfOrder, TransactionsDiffer, NoRoom, NotADirective, PduTooLarge, RangesOutOfOrder, NoRequestFits, FieldCut, InvalidEntry, TooManyRanges, InvalidFaultLocation, FileSizeTooLarge, InvalidChecksumType, NameTooLong, DataFieldTooLarge}
@@ -155,3 +155,12 @@ module _ {A R : Type 0} (yes : A → R) (no : Refusal → R) where
 
   pub told_back : (r : Refusal) → answer_back (told (paper r)) ≡ no r
   told_back r = told_list (paper r) ∙ ap no (back r)
+
+-- the answer leaves one result, whatever is accepted
+module _ {A : Type 0} where
+  result_back : (r : Result A Refusal) → answer_back Ok Err (answer_of r) ≡ r
+  result_back (Ok a) = refl
+  result_back (Err r) = told_back Ok Err r
+
+pub one_answer : (A : Type 0) → OneAnswer A
+one_answer A = one_to_one answer_of (answer_back Ok Err) result_back

@@ -1,4 +1,4 @@
--- A number in a part of a slice that has just its bytes: read or written there, it is read or written in the slice. Once over the width.
+-- A part of a slice that has just the bytes of what is read or written there: a number, once over the width, and bytes that are copied to it.
 -- Assumes nothing.
 use Prim.Native.Nat.{ℕ, ◌+◌, ◌-◌, ◌^◌, ◌≤◌, ◌<◌}
 use mathlib.Core.Path.{◌≡◌, sym, ap, ◌∙◌}
@@ -6,7 +6,8 @@ use mathlib.Core.List.{List, [], ◌++◌, append_assoc}
 use native.Mathlib.Nat.{add-zero}
 use native.Mathlib.Omega.{arith}
 use lib.ListN.{length, take, drop, length-take, length-drop, drop_of_length-le}
-use lib.Seq.{drop-drop, sets-eq}
+use lib.Seq.{drop-drop, sets, sets-eq}
+use borrow.Rule.Slice.PartMut.{put_mid}
 use Rattle.fields.specs.BigEndian.{be_bytes, number_at, be_at, be_put}
 use Rattle.fields.proofs.BigEndian.{be_length, at_number, number_take, number_behind, put_sets}
 
@@ -43,3 +44,7 @@ part_put s p at w e v pe h k f q =
     ∙ ap (λ (m : ℕ). take at s ++ (B ++ drop m (drop at s))) n
     ∙ ap (λ (x : List ℕ). take at s ++ (B ++ x)) (drop-drop w at s)
     ∙ sym whole
+
+-- bytes that are copied to a part
+pub copied : (s bytes b : List ℕ) (at k : ℕ) → k ≡ length bytes → b ≡ bytes → at + length bytes ≤ length s → put_mid at k s b ≡ sets s at bytes
+copied s bytes b at k p q h = rw (p, q, sets-eq bytes s at h, append_assoc, drop-drop)

@@ -1,5 +1,7 @@
 -- Answers in document 01's terms: what is accepted, or a refusal's number and values. 'The first that holds is the answer.'
-use Rattle.std.specs.Prelude.{ℕ, Bool, List, [], ◌∷◌, ◌++◌, eqb, length, get_or, drop, if◌then◌else◌}
+use Rattle.std.specs.Prelude.{ℕ, Bool, ◌≡◌, List, [], ◌∷◌, ◌++◌, eqb, length, get_or, drop, if◌then◌else◌, Result, Ok, Err}
+use Rattle.fields.specs.declared.refusal.Refusal.{Refusal}
+use Rattle.fields.specs.Refusal.{paper}
 
 -- `short` is refusal 1, with the length and the needed length: it stands by itself because demand 3 speaks of it
 pub data Answer (A : Type 0) : Type 0 where
@@ -10,6 +12,15 @@ pub data Answer (A : Type 0) : Type 0 where
 -- the answer that a refusal's number and values are
 unfoldable pub told : {A : Type 0} → List ℕ → Answer A
 told ns = if eqb (get_or ns 0 0) 1 then short (get_or ns 1 0) (get_or ns 2 0) else refused ns
+
+-- what the code answers: an `Ok` is accepted, an `Err` is its refusal's number and values
+abbrev pub answer_of : {A : Type 0} → Result A Refusal → Answer A
+answer_of (Ok a) = accepted a
+answer_of (Err r) = told (paper r)
+
+-- 'How much each promise says': the answer leaves one result
+abbrev pub OneAnswer : Type 0 → Type 0
+OneAnswer A = (a b : Result A Refusal) → answer_of a ≡ answer_of b → a ≡ b
 
 -- one answer, and then another that goes on from what was accepted
 abbrev pub and_then : {A B : Type 0} → Answer A → (A → Answer B) → Answer B

@@ -4,15 +4,10 @@ ghost use Rattle.fields.specs.BigEndian.{lies_in, number_at, be_at, overwritten,
 ghost use Rattle.fields.specs.Width.{fits_width};
 
 // The most bytes that a number has.
-const MAX_WIDTH: usize = 8;
-
-fn wide(x: u8) -> u64
-    ensures { (result ≡ x) × (result < 256) }
-{
-    x as u64
-}
+pub const MAX_WIDTH: usize = 8;
 
 // Whether the `width` bytes from `at` all lie in a slice of `len` bytes, and are no more than 8.
+#[tactic(auto, unfolding(crate::specs::BigEndian::lies_in))]
 pub fn lies_in(len: usize, at: usize, width: usize) -> bool
     ensures { result ≡ lies_in len at width }
 {
@@ -30,16 +25,15 @@ fn number_at(s: &[u8], at: usize, width: usize) -> u64
     ensures { (result ≡ number_at s.now at width) × (result < 256 ^ width) }
 {
     let mut value: u64 = 0;
-    let mut i = 0;
-    while i < width {
-        value = value * 256 + wide(s[at + i]);
-        i += 1;
+    for &byte in &s[at..at + width] {
+        value = value * 256 + byte as u64;
     }
     value
 }
 
 // The number that the `width` bytes from `at` are. Bytes that do not all lie in `s`, or more than 8 of them, are no
 // number and read as 0. What is read has no more bytes than were asked for.
+#[tactic(auto, using(crate::proofs::BigEndian::lies, crate::proofs::BigEndian::power_some), unfolding(crate::specs::BigEndian::be_at))]
 pub fn read_be(s: &[u8], at: usize, width: usize) -> u64
     ensures { (result ≡ be_at s.now at width) × (result < 256 ^ width) }
 {
@@ -53,17 +47,17 @@ fn put_number(buf: &mut [u8], at: usize, width: usize, value: u64)
     requires { at + width ≤ length buf.old }
     ensures { buf.new ≡ overwritten buf.old at width value }
 {
-    let mut left = width;
     let mut v = value;
-    while 0 < left {
-        left -= 1;
-        buf[at + left] = (v % 256) as u8;
-        v = v / 256;
+    // Places count from 0, so that the compiler sees how many there are: at a literal width this is then one store.
+    for i in (0..width).rev() {
+        buf[at + i] = (v % 256) as u8;
+        v /= 256;
     }
 }
 
 // Stores `value` in the `width` bytes from `at`. Where these do not all lie in `buf`, or are more than 8, or cannot hold
 // the value, no byte changes.
+#[tactic(auto, using(crate::proofs::BigEndian::lies), unfolding(crate::specs::BigEndian::be_put))]
 pub fn write_be(buf: &mut [u8], at: usize, width: usize, value: u64)
     ensures { buf.new ≡ be_put buf.old at width value }
 {
@@ -77,6 +71,7 @@ pub fn write_be(buf: &mut [u8], at: usize, width: usize, value: u64)
 }
 
 // Whether `value` has at most `width` bytes.
+#[tactic(auto, using(crate::proofs::Width::fits_wide, crate::proofs::Width::fits_shift))]
 pub fn fits(value: u64, width: usize) -> bool
     ensures { result ≡ fits_width width value }
 {

@@ -29,12 +29,10 @@ pub fn checksum(s: &[u8]) -> u16
     let entries = table();
     let mut upper = START / 256;
     let mut lower = START % 256;
-    let mut i = 0;
-    while i < s.len() {
-        let entry = entries[index(upper, s[i])] as usize;
+    for &byte in s {
+        let entry = entries[index(upper, byte)] as usize;
         upper = (entry / 256) ^ lower;
         lower = entry % 256;
-        i += 1;
     }
     (upper * 256 + lower) as u16
 }

@@ -1,19 +1,21 @@
 // A value with a width in bytes (the Rust's `util.rs`), and the two kinds of them that a header holds.
-ghost use Rattle.std.specs.Prelude.{◌≡◌, eqb};
+ghost use Rattle.std.specs.Prelude.{◌≡◌};
+ghost use Rattle.std.proofs.Common.{rules};
+ghost use Rattle.std.specs.Cmp.Rules.{comparing};
 ghost use Rattle.fields.specs.Width.{is_width, fits_field, same_value};
 
-#[derive(Clone, Copy)]
+#[derive(Clone, Copy, Debug)]
 pub struct UnsignedByteField {
     pub width: u8,
     pub value: u64,
 }
 
 // The identifier of an entity, source or destination. A header keeps one width for both.
-#[derive(Clone, Copy)]
+#[derive(Clone, Copy, PartialEq, Eq, Debug)]
 pub struct EntityId(pub u64);
 
 // The sequence number of a transaction. It is another type than an identifier, so that neither is taken for the other.
-#[derive(Clone, Copy)]
+#[derive(Clone, Copy, PartialEq, Eq, Debug)]
 pub struct TransactionSeqNum(pub UnsignedByteField);
 
 // Whether a width is one that the port, like the Rust, has: at most 8, and exactly one bit of it is set.
@@ -36,27 +38,19 @@ impl UnsignedByteField {
     {
         crate::be::fits(self.value, self.width as usize)
     }
+}
 
-    // Equal by number, whatever the widths, as in the Rust.
-    pub fn eq(self, other: UnsignedByteField) -> bool
-        ensures { result ≡ same_value self other }
-    {
+// Equal by number, whatever the widths, as in the Rust: a derived comparison would tell the widths apart.
+impl PartialEq for UnsignedByteField {
+    ghost eq = { same_value };
+
+    ghost laws = { Prim.search (comparing, rules) };
+
+    fn eq(&self, other: &UnsignedByteField) -> bool {
         self.value == other.value
     }
 }
 
-impl EntityId {
-    pub fn eq(self, other: EntityId) -> bool
-        ensures { result ≡ eqb self.0 other.0 }
-    {
-        self.0 == other.0
-    }
-}
-
-impl TransactionSeqNum {
-    pub fn eq(self, other: TransactionSeqNum) -> bool
-        ensures { result ≡ same_value self.0 other.0 }
-    {
-        self.0.value == other.0.value
-    }
+impl Eq for UnsignedByteField {
+    ghost laws = { Prim.search (comparing, rules) };
 }

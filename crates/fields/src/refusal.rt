@@ -1,9 +1,9 @@
 // The refusals of document 01, a variant for each number of its table and for those that document 02 adds, and their numbers for printing.
-ghost use Rattle.std.specs.Prelude.{◌≡◌};
+ghost use Rattle.std.specs.Prelude.{◌≡◌, ◌≤◌, length, get_or};
 ghost use Rattle.fields.specs.Refusal.{numbers_of};
 
 // Names are the Rust's, where the Rust has one; the names of 6, 10, 12, 18 to 28 and 30 to 32 are the port's own.
-#[derive(Clone, Copy)]
+#[derive(Clone, Copy, PartialEq, Eq, Hash, Debug)]
 pub enum Refusal {
     // 1: buffer short.
     FromSliceTooSmall { found: usize, expected: usize },
@@ -73,9 +73,10 @@ pub enum Refusal {
     DataFieldTooLarge,
 }
 
+// Kept: a count beside its values, since the definitions `numbers_of` and `listed` speak of these fields, and C's answer has them.
 // A refusal as document 01 prints it: its number, how many values it returns, and these; a value that it does not
 // return is 0.
-#[derive(Clone, Copy)]
+#[derive(Clone, Copy, PartialEq, Eq, Hash, Debug)]
 pub struct RefusalNumbers {
     pub number: u8,
     pub count: u8,
@@ -83,36 +84,16 @@ pub struct RefusalNumbers {
     pub second: u64,
 }
 
-fn none(number: u8) -> RefusalNumbers
-    ensures { result ≡ record { number = number; count = 0; first = 0; second = 0 } }
+// A row of the table: a number, and its values, of which there are at most two.
+fn row(number: u8, values: &[u64]) -> RefusalNumbers
+    requires { length values.now ≤ 2 }
+    ensures { result ≡ record { number = number; count = length values.now; first = get_or values.now 0 0; second = get_or values.now 1 0 } }
 {
     RefusalNumbers {
         number,
-        count: 0,
-        first: 0,
-        second: 0,
-    }
-}
-
-fn one(number: u8, first: u64) -> RefusalNumbers
-    ensures { result ≡ record { number = number; count = 1; first = first; second = 0 } }
-{
-    RefusalNumbers {
-        number,
-        count: 1,
-        first,
-        second: 0,
-    }
-}
-
-fn two(number: u8, first: u64, second: u64) -> RefusalNumbers
-    ensures { result ≡ record { number = number; count = 2; first = first; second = second } }
-{
-    RefusalNumbers {
-        number,
-        count: 2,
-        first,
-        second,
+        count: values.len() as u8,
+        first: values.first().copied().unwrap_or(0),
+        second: values.get(1).copied().unwrap_or(0),
     }
 }
 
@@ -121,42 +102,42 @@ impl Refusal {
         ensures { result ≡ numbers_of self }
     {
         match self {
-            Refusal::FromSliceTooSmall { found, expected } => two(1, found as u64, expected as u64),
-            Refusal::CfdpVersionMissmatch(version) => one(2, version as u64),
-            Refusal::InvalidEntityLen(width) => one(3, width as u64),
-            Refusal::InvalidTransactionSeqNumLen(width) => one(4, width as u64),
-            Refusal::Checksum(last) => one(5, last as u64),
-            Refusal::DataFieldTooSmall { stop, expected } => two(6, stop as u64, expected as u64),
-            Refusal::InvalidDirectiveType(code) => one(7, code as u64),
-            Refusal::WrongDirectiveType(code) => one(8, code as u64),
-            Refusal::InvalidStartOrEndOfScope { start, end } => two(9, start, end),
-            Refusal::TooManySegmentRequests { found, most } => two(10, found as u64, most as u64),
-            Refusal::ToSliceTooSmall { found, expected } => two(11, found as u64, expected as u64),
-            Refusal::OddCount(count) => one(12, count as u64),
-            Refusal::SourceDestIdLenMissmatch {
+            Self::FromSliceTooSmall { found, expected } => row(1, &[found as u64, expected as u64]),
+            Self::CfdpVersionMissmatch(version) => row(2, &[version as u64]),
+            Self::InvalidEntityLen(width) => row(3, &[width as u64]),
+            Self::InvalidTransactionSeqNumLen(width) => row(4, &[width as u64]),
+            Self::Checksum(last) => row(5, &[last as u64]),
+            Self::DataFieldTooSmall { stop, expected } => row(6, &[stop as u64, expected as u64]),
+            Self::InvalidDirectiveType(code) => row(7, &[code as u64]),
+            Self::WrongDirectiveType(code) => row(8, &[code as u64]),
+            Self::InvalidStartOrEndOfScope { start, end } => row(9, &[start, end]),
+            Self::TooManySegmentRequests { found, most } => row(10, &[found as u64, most as u64]),
+            Self::ToSliceTooSmall { found, expected } => row(11, &[found as u64, expected as u64]),
+            Self::OddCount(count) => row(12, &[count as u64]),
+            Self::SourceDestIdLenMissmatch {
                 source,
                 destination,
-            } => two(13, source as u64, destination as u64),
-            Refusal::ValueTooLargeForWidth { value, width } => two(14, value, width as u64),
-            Refusal::TooSmallForPduHeader => none(15),
-            Refusal::InvalidConditionCode => none(16),
-            Refusal::InvalidAckedDirectiveCode => none(17),
-            Refusal::PairOutOfOrder { file, pair } => two(18, file as u64, pair as u64),
-            Refusal::EntryOutOfOrder(at) => one(18, at as u64),
-            Refusal::TransactionsDiffer => none(19),
-            Refusal::NoRoom => none(20),
-            Refusal::NotADirective => none(21),
-            Refusal::PduTooLarge => none(22),
-            Refusal::RangesOutOfOrder => none(23),
-            Refusal::NoRequestFits => none(24),
-            Refusal::FieldCut(at) => one(25, at as u64),
-            Refusal::InvalidEntry(at) => one(26, at as u64),
-            Refusal::TooManyRanges => none(27),
-            Refusal::InvalidFaultLocation => none(28),
-            Refusal::FileSizeTooLarge => none(29),
-            Refusal::InvalidChecksumType => none(30),
-            Refusal::NameTooLong => none(31),
-            Refusal::DataFieldTooLarge => none(32),
+            } => row(13, &[source as u64, destination as u64]),
+            Self::ValueTooLargeForWidth { value, width } => row(14, &[value, width as u64]),
+            Self::TooSmallForPduHeader => row(15, &[]),
+            Self::InvalidConditionCode => row(16, &[]),
+            Self::InvalidAckedDirectiveCode => row(17, &[]),
+            Self::PairOutOfOrder { file, pair } => row(18, &[file as u64, pair as u64]),
+            Self::EntryOutOfOrder(at) => row(18, &[at as u64]),
+            Self::TransactionsDiffer => row(19, &[]),
+            Self::NoRoom => row(20, &[]),
+            Self::NotADirective => row(21, &[]),
+            Self::PduTooLarge => row(22, &[]),
+            Self::RangesOutOfOrder => row(23, &[]),
+            Self::NoRequestFits => row(24, &[]),
+            Self::FieldCut(at) => row(25, &[at as u64]),
+            Self::InvalidEntry(at) => row(26, &[at as u64]),
+            Self::TooManyRanges => row(27, &[]),
+            Self::InvalidFaultLocation => row(28, &[]),
+            Self::FileSizeTooLarge => row(29, &[]),
+            Self::InvalidChecksumType => row(30, &[]),
+            Self::NameTooLong => row(31, &[]),
+            Self::DataFieldTooLarge => row(32, &[]),
         }
     }
 }

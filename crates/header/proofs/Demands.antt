@@ -19,68 +19,18 @@ use Rattle.fields.proofs.Width.{lt_fits}
 use Rattle.fields.proofs.BigEndian.{bytes_take, number_lt}
 use Rattle.fields.proofs.Judging.{Passed, NoneSays, said_behind}
 use Rattle.fields.proofs.Staged.{passed_all, demand3}
-use Rattle.fields.proofs.OneToOne.{answer_back, told_back, one_to_one}
 use Rattle.header.specs.declared.PduHeader.{PduHeader}
-use Rattle.header.specs.declared.HeaderResult.{HeaderResult}
-use Rattle.header.specs.declared.HeaderResult.TheVariants.{Header, Refused}
-use Rattle.header.specs.declared.LengthResult.{LengthResult}
-use Rattle.header.specs.declared.LengthResult.TheVariants.{Length, Refused as NoLength}
-use Rattle.header.specs.declared.Judged.{Judged}
-use Rattle.header.specs.declared.Judged.TheVariants.{Passed as AllPassed, Refused as NotPassed}
-use Rattle.header.specs.declared.directive.DirectiveResult.{DirectiveResult}
-use Rattle.header.specs.declared.directive.DirectiveResult.TheVariants.{Directive, Refused as NoDirective}
-use Rattle.header.specs.declared.pdu.WriteResult.{WriteResult}
-use Rattle.header.specs.declared.pdu.WriteResult.TheVariants.{Written, Refused as NotWritten}
-use Rattle.header.specs.Pdu.{write_answer}
-use Rattle.header.specs.Answers.{header_answer, length_answer, judged_answer, directive_answer}
 use Rattle.header.specs.Header.{header_length, header_bytes}
 use Rattle.header.specs.Judging.{record_tests, judging}
 use Rattle.header.specs.Reading.{entity_width_in, sequence_width_in, header_length_in, header_in, reading_header}
 use Rattle.header.specs.Directive.{reading_own}
 use Rattle.header.specs.Writing.{no_room, writing_header, header_memory}
-use Rattle.header.specs.Demands.{HeaderReadsBack, MemoryReadsBack, ReadIsSound, NamedNeedIsEnough, HeaderDemand3, DirectiveDemand3, OneHeaderResult, OneLengthResult, OneJudged, OneDirectiveResult, OneWriteResult}
+use Rattle.header.specs.Demands.{HeaderReadsBack, MemoryReadsBack, ReadIsSound, NamedNeedIsEnough, HeaderDemand3, DirectiveDemand3}
 use Rattle.header.proofs.Judging.{sound, all_right}
 use Rattle.header.proofs.Reading.{header_two}
 use Rattle.header.proofs.Writing.{enough, written_passed}
 use Rattle.header.proofs.Directives.{own_four}
 use Rattle.header.proofs.RoundTrip.{reads_back}
-
--- ---- one answer
-
-header_back : (r : HeaderResult) → answer_back Header Refused (header_answer r) ≡ r
-header_back (Header h) = refl
-header_back (Refused r) = told_back Header Refused r
-
-pub one_header_result : OneHeaderResult
-one_header_result = one_to_one header_answer (answer_back Header Refused) header_back
-
-length_result_back : (r : LengthResult) → answer_back Length NoLength (length_answer r) ≡ r
-length_result_back (Length n) = refl
-length_result_back (NoLength r) = told_back Length NoLength r
-
-pub one_length_result : OneLengthResult
-one_length_result = one_to_one length_answer (answer_back Length NoLength) length_result_back
-
-judged_back : (r : Judged) → answer_back (λ _. AllPassed) NotPassed (judged_answer r) ≡ r
-judged_back AllPassed = refl
-judged_back (NotPassed r) = told_back (λ _. AllPassed) NotPassed r
-
-pub one_judged : OneJudged
-one_judged = one_to_one judged_answer (answer_back (λ _. AllPassed) NotPassed) judged_back
-
-directive_back : (r : DirectiveResult) → answer_back Directive NoDirective (directive_answer r) ≡ r
-directive_back (Directive d) = refl
-directive_back (NoDirective r) = told_back Directive NoDirective r
-
-pub one_directive_result : OneDirectiveResult
-one_directive_result = one_to_one directive_answer (answer_back Directive NoDirective) directive_back
-
-write_back : (r : WriteResult) → answer_back Written NotWritten (write_answer r) ≡ r
-write_back (Written w) = refl
-write_back (NotWritten r) = told_back Written NotWritten r
-
-pub one_write_result : OneWriteResult
-one_write_result = one_to_one write_answer (answer_back Written NotWritten) write_back
 
 -- ---- demand 3
 

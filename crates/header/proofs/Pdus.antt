@@ -17,14 +17,13 @@ use Rattle.header.specs.declared.pdu.PduWritten.{PduWritten}
 use Rattle.header.specs.declared.flags.PduType.TheVariants.{FileDirective}
 use Rattle.header.specs.declared.flags.Direction.{Direction}
 use Rattle.header.specs.declared.flags.LargeFileFlag.{LargeFileFlag}
-use Rattle.header.specs.Flags.{crc_bit, pdu_type_if}
+use Rattle.header.specs.Flags.{crc_bit, pdu_type_if, pdu_type_laws}
 use Rattle.header.specs.Header.{header_length, header_bytes, pdu_length, data_end, crc_length, with_direction, with_file_flag, with_length}
 use Rattle.header.specs.Judging.{record_tests, judging, Sound}
 use Rattle.header.specs.Writing.{no_room}
 use Rattle.header.specs.Verifying.{checksum_bytes, crc_added}
 use Rattle.header.specs.Directive.{not_a_directive}
 use Rattle.header.specs.Pdu.{directive_tests, judging_directive, pdu_over, handed_back, writing_pdu, pdu_memory, with_data, beginning, begun_memory, sealed_memory}
-use Rattle.header.proofs.FlagBits.{pdu_type_back}
 use Rattle.header.proofs.Judging.{sound, with_tests, refused_first}
 use Rattle.header.proofs.Writing.{header_length_lem}
 use Rattle.header.proofs.Verifying.{pdu_sum, end_sum, added_sets, checksum_length}
@@ -57,7 +56,7 @@ directive_good h p = passed_first (record_tests h) (not_a_directive h ∷ []) p
 
 pub directive_kind : (h : PduHeader) → Passed (directive_tests h) → h.kind ≡ FileDirective
 unfolding directive_tests
-directive_kind h p = sym (pdu_type_back h.kind) ∙ ap pdu_type_if (passed_last (record_tests h) (not_a_directive h ∷ []) p).0
+directive_kind h p = sym (pdu_type_laws.back h.kind) ∙ ap pdu_type_if (passed_last (record_tests h) (not_a_directive h ∷ []) p).0
 
 -- direction, file flag and length are not judged
 pub with_directive : (d : Direction) (f : LargeFileFlag) (l : ℕ) (h : PduHeader)

@@ -14,7 +14,7 @@ use Rattle.fields.specs.Answer.{accepted}
 use Rattle.fields.specs.Staged.{run}
 use Rattle.fields.proofs.BigEndian.{be_length, then_length, number_back, number_take, byte_back}
 use Rattle.header.specs.declared.PduHeader.{PduHeader}
-use Rattle.header.specs.Flags.{pdu_type_if, direction_if, mode_if, crc_if, file_if, control_if, metadata_if}
+use Rattle.header.specs.Flags.{pdu_type_if, pdu_type_laws, direction_if, direction_laws, mode_if, mode_laws, crc_if, crc_laws, file_if, file_laws, control_if, control_laws, metadata_if, metadata_laws}
 use Rattle.header.specs.Header.{entity_width, sequence_width, header_length, first_byte, fourth_byte, header_bytes}
 use Rattle.header.specs.Judging.{Sound}
 use Rattle.header.specs.Reading.{is_set, entity_width_in, sequence_width_in, header_length_in, header_in, reading_header}
@@ -39,8 +39,8 @@ module _ (h : PduHeader) (k : Sound h) (small : h.length < 2 ^ 16) where
       let s : header_bytes h ++ r ≡ be_bytes 1 (first_byte h) ++ tail = simp append_assoc in
       ap (λ (x : List ℕ). get_or x 0 0) s
       ∙ byte_back [] tail 0 (first_byte h) (λ _. 0)
-      (bits.first_lt _ _ _ _ _ (bits.pdu_type_bit_lem h.kind) (bits.direction_bit_lem h.direction) (bits.mode_bit_lem h.mode) (bits.crc_bit_lem h.crc)
-      (bits.file_bit_lem h.file))
+      (bits.first_lt _ _ _ _ _ (pdu_type_laws.small h.kind) (direction_laws.small h.direction) (mode_laws.small h.mode) (crc_laws.small h.crc)
+      (file_laws.small h.file))
 
   fourth_at : (r : List ℕ) → get_or (header_bytes h ++ r) 3 0 ≡ fourth_byte h
   unfolding header_bytes fourth_byte
@@ -51,25 +51,25 @@ module _ (h : PduHeader) (k : Sound h) (small : h.length < 2 ^ 16) where
       let l : length pre ≡ 3 = simp (length-append, be_length) in
       ap (λ (x : List ℕ). get_or x 3 0) s
       ∙ byte_back pre tail 3 (fourth_byte h) l
-      (bits.fourth_lt _ (e - 1) _ (q - 1) (bits.control_bit_lem h.control) (omega arith) (bits.metadata_bit_lem h.metadata) (omega arith))
+      (bits.fourth_lt _ (e - 1) _ (q - 1) (control_laws.small h.control) (omega arith) (metadata_laws.small h.metadata) (omega arith))
 
   version_is : first_byte h / 32 % 8 ≡ 1
   unfolding first_byte
   version_is =
-      bits.first_version _ _ _ _ _ (bits.pdu_type_bit_lem h.kind) (bits.direction_bit_lem h.direction) (bits.mode_bit_lem h.mode) (bits.crc_bit_lem h.crc)
-      (bits.file_bit_lem h.file)
+      bits.first_version _ _ _ _ _ (pdu_type_laws.small h.kind) (direction_laws.small h.direction) (mode_laws.small h.mode) (crc_laws.small h.crc)
+      (file_laws.small h.file)
 
   entity_is : fourth_byte h / 16 % 8 + 1 ≡ e
   unfolding fourth_byte
   entity_is =
       omega
-      (arith, bits.fourth_entity _ (e - 1) _ (q - 1) (bits.control_bit_lem h.control) (omega arith) (bits.metadata_bit_lem h.metadata) (omega arith))
+      (arith, bits.fourth_entity _ (e - 1) _ (q - 1) (control_laws.small h.control) (omega arith) (metadata_laws.small h.metadata) (omega arith))
 
   sequence_is : fourth_byte h % 8 + 1 ≡ q
   unfolding fourth_byte
   sequence_is =
       omega
-      (arith, bits.fourth_sequence _ (e - 1) _ (q - 1) (bits.control_bit_lem h.control) (omega arith) (bits.metadata_bit_lem h.metadata) (omega arith))
+      (arith, bits.fourth_sequence _ (e - 1) _ (q - 1) (control_laws.small h.control) (omega arith) (metadata_laws.small h.metadata) (omega arith))
 
   length_is : (s : List ℕ) → e ≡ entity_width_in s → q ≡ sequence_width_in s → header_length h ≡ header_length_in s
   unfolding header_length
@@ -100,26 +100,26 @@ module _ (h : PduHeader) (k : Sound h) (small : h.length < 2 ^ 16) where
     header_in_lem : header_in a ≡ h
     unfolding header_in first_byte fourth_byte
     header_in_lem =
-        let t = bits.pdu_type_bit_lem h.kind in
-        let d = bits.direction_bit_lem h.direction in
-        let m = bits.mode_bit_lem h.mode in
-        let c = bits.crc_bit_lem h.crc in
-        let f = bits.file_bit_lem h.file in
-        let g = bits.control_bit_lem h.control in
-        let s = bits.metadata_bit_lem h.metadata in
+        let t = pdu_type_laws.small h.kind in
+        let d = direction_laws.small h.direction in
+        let m = mode_laws.small h.mode in
+        let c = crc_laws.small h.crc in
+        let f = file_laws.small h.file in
+        let g = control_laws.small h.control in
+        let s = metadata_laws.small h.metadata in
         let le : e - 1 < 8 = omega arith in
         let lq : q - 1 < 8 = omega arith in
         λ i.
         record {
-          kind = (ap pdu_type_if (set_first 16 _ (bits.first_16 _ _ _ _ _ t d m c f)) ∙ bits.pdu_type_back h.kind) i;
-          direction = (ap direction_if (set_first 8 _ (bits.first_8 _ _ _ _ _ t d m c f)) ∙ bits.direction_back h.direction) i;
-          mode = (ap mode_if (set_first 4 _ (bits.first_4 _ _ _ _ _ t d m c f)) ∙ bits.mode_back h.mode) i;
-          crc = (ap crc_if (set_first 2 _ (bits.first_2 _ _ _ _ _ t d m c f)) ∙ bits.crc_back h.crc) i;
-          file = (ap file_if (set_first 1 _ (bits.first_1 _ _ _ _ _ t d m c f)) ∙ bits.file_back h.file) i;
+          kind = (ap pdu_type_if (set_first 16 _ (bits.first_16 _ _ _ _ _ t d m c f)) ∙ pdu_type_laws.back h.kind) i;
+          direction = (ap direction_if (set_first 8 _ (bits.first_8 _ _ _ _ _ t d m c f)) ∙ direction_laws.back h.direction) i;
+          mode = (ap mode_if (set_first 4 _ (bits.first_4 _ _ _ _ _ t d m c f)) ∙ mode_laws.back h.mode) i;
+          crc = (ap crc_if (set_first 2 _ (bits.first_2 _ _ _ _ _ t d m c f)) ∙ crc_laws.back h.crc) i;
+          file = (ap file_if (set_first 1 _ (bits.first_1 _ _ _ _ _ t d m c f)) ∙ file_laws.back h.file) i;
           length = length_at i;
-          control = (ap control_if (set_fourth 128 _ (bits.fourth_128 _ (e - 1) _ (q - 1) g le s lq)) ∙ bits.control_back h.control) i;
+          control = (ap control_if (set_fourth 128 _ (bits.fourth_128 _ (e - 1) _ (q - 1) g le s lq)) ∙ control_laws.back h.control) i;
           width = entity_in i;
-          metadata = (ap metadata_if (set_fourth 8 _ (bits.fourth_8 _ (e - 1) _ (q - 1) g le s lq)) ∙ bits.metadata_back h.metadata) i;
+          metadata = (ap metadata_if (set_fourth 8 _ (bits.fourth_8 _ (e - 1) _ (q - 1) g le s lq)) ∙ metadata_laws.back h.metadata) i;
           source = record { 0 = (ap (λ (w : ℕ). number_at a 4 w) entity_in ∙ source-at) i };
           sequence = record { 0 = record { width = sequence_in i; value = (ap₂ (λ (x y : ℕ). number_at a (4 + x) y) entity_in sequence_in ∙ sequence-at) i } };
           destination = record { 0 = (ap₂ (λ (x y : ℕ). number_at a (4 + x + y) x) entity_in sequence_in ∙ destination-at) i };

@@ -17,13 +17,12 @@ use Rattle.fields.specs.Demand3.{AtMost}
 use Rattle.fields.proofs.Checksum.{checksum_lt, residue}
 use Rattle.fields.proofs.BigEndian.{at_number, be_length, put_beyond, put_sets}
 use lib.Seq.{sets}
-use Rattle.header.proofs.FlagBits.{crc_bit_lem}
 use Rattle.header.specs.declared.flags.CrcFlag.{CrcFlag}
 use Rattle.fields.proofs.Judging.{Passed, told_is_refused, told_is_short}
 use Rattle.fields.proofs.Staged.{passed_all, told_before, tests_refused, tests_passed}
 use Rattle.header.specs.declared.PduHeader.{PduHeader}
 use Rattle.header.specs.declared.flags.CrcFlag.TheVariants.{NoCrc, WithCrc}
-use Rattle.header.specs.Flags.{crc_bit}
+use Rattle.header.specs.Flags.{crc_bit, crc_laws}
 use Rattle.header.specs.Header.{header_length, pdu_length, data_end}
 use Rattle.header.specs.Judging.{record_tests, judging}
 use Rattle.header.specs.Verifying.{wrong_checksum, pdu_bytes, verifying, checksum_bytes, crc_added}
@@ -125,7 +124,7 @@ pdu_sum h = refl
 
 pub end_sum : (h : PduHeader) → data_end h + 2 * crc_bit h.crc ≡ pdu_length h
 unfolding data_end
-end_sum h = let l = at_least h (pdu_length h) refl in omega (arith, crc_bit_lem h.crc)
+end_sum h = let l = at_least h (pdu_length h) refl in omega (arith, crc_laws.small h.crc)
 
 -- where the data ends
 pub end_from : (h : PduHeader) (b p : ℕ) → b ≡ crc_bit h.crc → p ≡ pdu_length h → (2 * b ≤ p) × (p - 2 * b ≡ data_end h)

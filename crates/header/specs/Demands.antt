@@ -5,18 +5,11 @@ use Rattle.fields.specs.Answer.{accepted, refused}
 use Rattle.fields.specs.Staged.{run}
 use Rattle.fields.specs.Demand3.{Demand3}
 use Rattle.header.specs.declared.PduHeader.{PduHeader}
-use Rattle.header.specs.declared.HeaderResult.{HeaderResult}
-use Rattle.header.specs.declared.LengthResult.{LengthResult}
-use Rattle.header.specs.declared.Judged.{Judged}
-use Rattle.header.specs.declared.directive.DirectiveResult.{DirectiveResult}
-use Rattle.header.specs.declared.pdu.WriteResult.{WriteResult}
 use Rattle.header.specs.Header.{header_bytes}
-use Rattle.header.specs.Answers.{header_answer, length_answer, judged_answer, directive_answer}
 use Rattle.header.specs.Judging.{judging}
 use Rattle.header.specs.Reading.{reading_header}
 use Rattle.header.specs.Writing.{writing_header, header_memory}
 use Rattle.header.specs.Directive.{reading_own}
-use Rattle.header.specs.Pdu.{write_answer}
 use Rattle.header.specs.Comparing.{same_header}
 
 -- DEMAND 2: what is written, followed by anything, reads back as the same header
@@ -59,19 +52,3 @@ HeaderDemand3 = Demand3 (run reading_header) 2
 -- DEMAND 3: of a directive PDU through its code, at most four
 abbrev pub DirectiveDemand3 : Type 0
 DirectiveDemand3 = (own : ℕ) → Demand3 (run (reading_own own)) 4
-
--- 'How much each promise says': the answers leave one value
-abbrev pub OneHeaderResult : Type 0
-OneHeaderResult = (a b : HeaderResult) → header_answer a ≡ header_answer b → a ≡ b
-
-abbrev pub OneLengthResult : Type 0
-OneLengthResult = (a b : LengthResult) → length_answer a ≡ length_answer b → a ≡ b
-
-abbrev pub OneJudged : Type 0
-OneJudged = (a b : Judged) → judged_answer a ≡ judged_answer b → a ≡ b
-
-abbrev pub OneDirectiveResult : Type 0
-OneDirectiveResult = (a b : DirectiveResult) → directive_answer a ≡ directive_answer b → a ≡ b
-
-abbrev pub OneWriteResult : Type 0
-OneWriteResult = (a b : WriteResult) → write_answer a ≡ write_answer b → a ≡ b

@@ -5,6 +5,7 @@ use Rattle.fields.specs.declared.field.EntityId.{EntityId}
 use Rattle.fields.specs.Width.{is_width, fits_field}
 use Rattle.fields.specs.Answer.{Answer, and_then, Test, when, first_of}
 use Rattle.header.specs.declared.PduHeader.{PduHeader}
+use Rattle.header.specs.declared.judge.HeaderFields.{HeaderFields}
 use Rattle.header.specs.Header.{source_id, dest_id}
 
 -- 13: source and destination widths differ
@@ -44,6 +45,24 @@ record_tests h =
 -- judging a record, which has one width for both identifiers
 unfoldable pub judging : PduHeader → Answer PduHeader
 judging h = first_of (record_tests h) h
+
+-- the record of the fields, under the source's width
+abbrev pub header_of : HeaderFields → PduHeader
+header_of f =
+    record {
+      kind = f.kind;
+      direction = f.direction;
+      mode = f.mode;
+      crc = f.crc;
+      file = f.file;
+      length = f.length;
+      control = f.control;
+      width = f.source.width;
+      metadata = f.metadata;
+      source = record { 0 = f.source.value };
+      sequence = f.sequence;
+      destination = record { 0 = f.destination.value };
+    }
 
 -- a record of two identifiers that have a width each: there is one where they agree
 unfoldable pub joining : UnsignedByteField → UnsignedByteField → PduHeader → Answer PduHeader

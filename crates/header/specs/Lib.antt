@@ -1,7 +1,6 @@
 -- The definitions that the promises cite, from section 5.1 of the standard and document 01; read them in this order.
 pub mod Flags
 pub mod Header
-pub mod Answers
 pub mod Judging
 pub mod Reading
 pub mod Writing

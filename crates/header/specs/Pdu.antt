@@ -1,13 +1,8 @@
 -- Writing a directive PDU around its data (CCSDS 727.0-B-5, 5.2; documents 01 and 02): its bytes, its tests in their order, the answers, and the lent memory at exit.
 use Rattle.std.specs.Prelude.{ℕ, List, [], ◌∷◌, ◌++◌, length}
-use Rattle.fields.specs.Answer.{Answer, accepted, short, refused, told, and_then, Test, first_of, leaves, all_of}
-use Rattle.fields.specs.Refusal.{paper}
+use Rattle.fields.specs.Answer.{Answer, accepted, short, refused, and_then, Test, first_of, leaves, all_of}
 use Rattle.header.specs.declared.PduHeader.{PduHeader}
-use Rattle.header.specs.declared.pdu.DataLength.{DataLength}
-use Rattle.header.specs.declared.pdu.DataLength.TheVariants.{Length, Refused as NoLength}
 use Rattle.header.specs.declared.pdu.PduWritten.{PduWritten}
-use Rattle.header.specs.declared.pdu.WriteResult.{WriteResult}
-use Rattle.header.specs.declared.pdu.WriteResult.TheVariants.{Written, Refused}
 use Rattle.header.specs.Header.{header_bytes, pdu_length, data_end, with_length}
 use Rattle.header.specs.Judging.{record_tests}
 use Rattle.header.specs.Writing.{no_room}
@@ -29,14 +24,6 @@ unfoldable pub judging_directive : PduHeader → Answer (Unit {0})
 judging_directive h = all_of (directive_tests h)
 
 -- ---- writing
-
-abbrev pub data_answer : DataLength → Answer ℕ
-data_answer (Length d) = accepted d
-data_answer (NoLength r) = told (paper r)
-
-abbrev pub write_answer : WriteResult → Answer PduWritten
-write_answer (Written w) = accepted w
-write_answer (Refused r) = told (paper r)
 
 -- what is handed back: the header, and the bytes of its PDU
 abbrev pub handed_back : PduHeader → PduWritten

@@ -1,27 +1,21 @@
 -- What private functions promise each other, by the definitions of the other files. No public promise cites this file.
-use Rattle.std.specs.Prelude.{ℕ, ◌+◌, ◌*◌, ◌≤◌, ◌≡◌, List, [], ◌∷◌, length, take}
+use Rattle.std.specs.Prelude.{ℕ, ◌+◌, ◌≤◌, ◌≡◌, List, [], ◌∷◌, length, take, Result, Ok, Err}
+use Rattle.fields.specs.declared.refusal.Refusal.{Refusal}
 use Rattle.fields.specs.Answer.{accepted, told, Test}
 use Rattle.fields.specs.Refusal.{paper}
 use Rattle.fields.specs.Staged.{Staged, accept, ◌>>=◌, ◌>>◌, bytes, test, run}
 use Rattle.header.specs.declared.PduHeader.{PduHeader}
-use Rattle.header.specs.declared.LengthResult.{LengthResult}
-use Rattle.header.specs.declared.LengthResult.TheVariants.{Length, Refused}
 use Rattle.header.specs.declared.directive.DirectivePdu.{DirectivePdu}
-use Rattle.header.specs.Flags.{control_bit, metadata_bit}
-use Rattle.header.specs.Header.{header_length, data_end, first_byte}
+use Rattle.header.specs.Header.{header_length, data_end}
 use Rattle.header.specs.Reading.{header_length_in, header_in, reading_header}
 use Rattle.header.specs.Verifying.{pdu_bytes}
 use Rattle.header.specs.Code.{unknown_directive, wrong_directive}
 use Rattle.header.specs.Directive.{data_short, not_a_directive, least_length, code_in, content_of, PduRead}
 
 -- the header that is read from the bytes s has so many bytes, or is refused like this
-abbrev pub Measured : LengthResult → List ℕ → Type 0
-Measured (Refused r) s = told (paper r) ≡ run reading_header s
-Measured (Length n) s = (n ≤ length s) × (header_length_in (take n s) ≤ length (take n s)) × (accepted (header_in (take n s)) ≡ run reading_header s)
-
--- all flags in one number: those of byte 0, and behind them a bit for each of the other two
-abbrev pub flag_bits : PduHeader → ℕ
-flag_bits h = (first_byte h * 2 + control_bit h.control) * 2 + metadata_bit h.metadata
+abbrev pub Measured : Result ℕ Refusal → List ℕ → Type 0
+Measured (Err r) s = told (paper r) ≡ run reading_header s
+Measured (Ok n) s = (n ≤ length s) × (header_length_in (take n s) ≤ length (take n s)) × (accepted (header_in (take n s)) ≡ run reading_header s)
 
 -- ---- the stages of `reading_directive`, one behind the other, as the functions share them
 

@@ -1,42 +1,39 @@
 // Comparing two headers: all fields, identifiers and sequence numbers by number, as in the Rust.
 ghost use Rattle.std.specs.Prelude.{◌≡◌};
-ghost use Rattle.header.specs.Comparing.{same_flags, same_header};
-ghost use Rattle.header.specs.Within.{flag_bits};
+ghost use Rattle.header.specs.Comparing.{same_flags, same_header, same_header_equiv};
+ghost use Rattle.std.specs.Cmp.{partial_equiv_from_equiv};
 
-use crate::{PduHeader, write};
+use crate::PduHeader;
 
-// All flags of a header, each in a bit of its own.
-fn flag_bits(h: PduHeader) -> u16
-    ensures { result ≡ flag_bits h }
+// `&` has no branch, so that all flags are compared at once.
+fn same_flags(a: &PduHeader, b: &PduHeader) -> bool
+    ensures { result ≡ same_flags a.now b.now }
 {
-    let control = h.control;
-    let metadata = h.metadata;
-    let bits = (write::first_byte(h) as u16) * 2 + (control.bit() as u16);
-    bits * 2 + (metadata.bit() as u16)
+    (a.kind == b.kind)
+        & (a.direction == b.direction)
+        & (a.mode == b.mode)
+        & (a.crc == b.crc)
+        & (a.file == b.file)
+        & (a.control == b.control)
+        & (a.metadata == b.metadata)
 }
 
-fn same_flags(a: PduHeader, b: PduHeader) -> bool
-    ensures { result ≡ same_flags a b }
-{
-    flag_bits(a) == flag_bits(b)
-}
+// No derive: the width of an identifier does not count.
+impl PartialEq for PduHeader {
+    ghost eq = { same_header };
 
-impl PduHeader {
-    pub fn eq(self, other: PduHeader) -> bool
-        ensures { result ≡ same_header self other }
-    {
-        if !same_flags(self, other) {
-            return false;
-        }
-        if self.length != other.length {
-            return false;
-        }
-        if !self.source.eq(other.source) {
-            return false;
-        }
-        if !self.sequence.eq(other.sequence) {
-            return false;
-        }
-        self.destination.eq(other.destination)
+    ghost laws = { partial_equiv_from_equiv same_header_equiv };
+
+    #[tactic(auto, unfolding(crate::specs::Comparing::same_header))]
+    fn eq(&self, other: &PduHeader) -> bool {
+        same_flags(self, other)
+            && self.length == other.length
+            && self.source == other.source
+            && self.sequence == other.sequence
+            && self.destination == other.destination
     }
+}
+
+impl Eq for PduHeader {
+    ghost laws = { same_header_equiv };
 }

@@ -19,7 +19,7 @@ pub mod verify;
 pub mod write;
 
 pub use flags::{
-    CrcFlag, Direction, LargeFileFlag, PduType, SegmentMetadataFlag, SegmentationControl,
+    CrcFlag, Direction, Flag, LargeFileFlag, PduType, SegmentMetadataFlag, SegmentationControl,
     TransmissionMode,
 };
 
@@ -30,9 +30,9 @@ pub const FIXED_HEADER_LEN: usize = 4;
 pub const CRC_LEN: usize = 2;
 
 // All fields of a header. The Rust's names stand beside those that differ. Their order is that in memory, where a record shares its place
-// with a refusal (`HeaderResult`): the numbers of one lie over those of the other, and the flags behind them, so that a record is handed
+// with a refusal (`Result<PduHeader, Refusal>`): the numbers of one lie over those of the other, and the flags behind them, so that a record is handed
 // on field by field and not in pieces that a read has to wait for.
-#[derive(Clone, Copy)]
+#[derive(Clone, Copy, Debug)]
 pub struct PduHeader {
     // pdu_type
     pub kind: PduType,
@@ -57,27 +57,6 @@ pub struct PduHeader {
     pub metadata: SegmentMetadataFlag,
     // The bytes of each of the two entity identifiers.
     pub width: u8,
-}
-
-// A header, or why there is none.
-#[derive(Clone, Copy)]
-pub enum HeaderResult {
-    Header(PduHeader),
-    Refused(Refusal),
-}
-
-// A length in bytes, or why there is none.
-#[derive(Clone, Copy)]
-pub enum LengthResult {
-    Length(usize),
-    Refused(Refusal),
-}
-
-// What a judgement says that hands back nothing: that its tests were passed, or which was not.
-#[derive(Clone, Copy)]
-pub enum Judged {
-    Passed,
-    Refused(Refusal),
 }
 
 impl PduHeader {
@@ -115,8 +94,7 @@ impl PduHeader {
     pub fn data_end(self) -> usize
         ensures { result ≡ data_end self }
     {
-        let crc = self.crc;
-        self.pdu_len() - CRC_LEN * (crc.bit() as usize)
+        self.pdu_len() - CRC_LEN * (self.crc.bit() as usize)
     }
 
     pub fn with_direction(self, direction: Direction) -> Self

@@ -1,27 +1,24 @@
 // Reading a header: bytes 0 and 3 are taken apart by shifts and masks, the numbers are big-endian.
-ghost use Rattle.std.specs.Prelude.{◌≡◌, ◌+◌, ◌/◌, ◌%◌, ◌^◌, ◌≤◌, ◌<◌, length};
+ghost use Rattle.std.specs.Prelude.{◌≡◌, ◌+◌, ◌/◌, ◌%◌, ◌^◌, ◌≤◌, ◌<◌, Err, length};
+ghost use Rattle.fields.specs.Answer.{answer_of};
 ghost use Rattle.fields.specs.Staged.{run};
-ghost use Rattle.header.specs.Answers.{header_answer};
 ghost use Rattle.header.specs.Reading.{is_set, header_length_in, header_in, reading_header};
 ghost use Rattle.header.specs.Within.{Measured};
 
 use crate::flags::CFDP_VERSION_2;
 use crate::judge::judge_widths;
-use crate::{
-    CrcFlag, Direction, FIXED_HEADER_LEN, HeaderResult, Judged, LargeFileFlag, LengthResult,
-    PduHeader, PduType, SegmentMetadataFlag, SegmentationControl, TransmissionMode,
-};
+use crate::{FIXED_HEADER_LEN, Flag, PduHeader};
 use fields::{EntityId, Refusal, TransactionSeqNum, UnsignedByteField, be};
 
 // Byte 3, which holds the two widths.
 const WIDTHS_AT: usize = 3;
 
-// Whether bit k is set; bit 0 is the lowest.
-fn bit_at(byte: u8, k: u8) -> bool
+// The flag in bit k; bit 0 is the lowest.
+fn flag_at<F: Flag>(byte: u8, k: u8) -> F
     requires { k < 8 }
-    ensures { result ≡ is_set byte (2 ^ k) }
+    ensures { result ≡ F.flag_if (is_set byte (2 ^ k)) }
 {
-    (byte >> k) & 1 == 1
+    F::from_bit((byte >> k) & 1 == 1)
 }
 
 // The three bits from bit k up.
@@ -58,29 +55,29 @@ pub(crate) fn header_in(s: &[u8]) -> PduHeader
     let number = be::read_be(&s[second..third], 0, q);
     let destination_id = be::read_be(&s[third..third + e], 0, e);
     PduHeader {
-        kind: PduType::from_bit(bit_at(first, 4)),
-        direction: Direction::from_bit(bit_at(first, 3)),
-        mode: TransmissionMode::from_bit(bit_at(first, 2)),
-        crc: CrcFlag::from_bit(bit_at(first, 1)),
-        file: LargeFileFlag::from_bit(bit_at(first, 0)),
+        kind: flag_at(first, 4),
+        direction: flag_at(first, 3),
+        mode: flag_at(first, 2),
+        crc: flag_at(first, 1),
+        file: flag_at(first, 0),
         length,
-        control: SegmentationControl::from_bit(bit_at(fourth, 7)),
+        control: flag_at(fourth, 7),
         width: entity,
-        metadata: SegmentMetadataFlag::from_bit(bit_at(fourth, 3)),
+        metadata: flag_at(fourth, 3),
         source: EntityId(source_id),
         sequence: TransactionSeqNum(UnsignedByteField::new(sequence, number)),
         destination: EntityId(destination_id),
     }
 }
 
-pub(crate) fn short(found: usize, expected: usize) -> LengthResult
-    ensures { result ≡ LengthResult.Refused (Refusal.FromSliceTooSmall found expected) }
+pub(crate) fn short(found: usize, expected: usize) -> Result<usize, Refusal>
+    ensures { result ≡ Err (Refusal.FromSliceTooSmall found expected) }
 {
-    LengthResult::Refused(Refusal::FromSliceTooSmall { found, expected })
+    Err(Refusal::FromSliceTooSmall { found, expected })
 }
 
 // The bytes of the header at the front of the bytes, or why none is there.
-pub(crate) fn length_in(buf: &[u8]) -> LengthResult
+pub(crate) fn length_in(buf: &[u8]) -> Result<usize, Refusal>
     ensures { Measured result buf.now }
 {
     let n = buf.len();
@@ -90,30 +87,24 @@ pub(crate) fn length_in(buf: &[u8]) -> LengthResult
     let fixed = &buf[..FIXED_HEADER_LEN];
     let version = three_at(fixed[0], 5);
     if version != CFDP_VERSION_2 {
-        return LengthResult::Refused(Refusal::CfdpVersionMissmatch(version));
+        return Err(Refusal::CfdpVersionMissmatch(version));
     }
     let entity = width_at(fixed[WIDTHS_AT], 4);
     let sequence = width_at(fixed[WIDTHS_AT], 0);
-    let judged = judge_widths(entity, sequence);
-    if let Judged::Refused(refusal) = judged {
-        return LengthResult::Refused(refusal);
-    }
+    judge_widths(entity, sequence)?;
     let len = FIXED_HEADER_LEN + 2 * (entity as usize) + (sequence as usize);
     if n < len {
         return short(n, len);
     }
-    LengthResult::Length(len)
+    Ok(len)
 }
 
 impl PduHeader {
     // Only the header is asked for: the rest of the PDU may be missing, and its checksum is not looked at.
-    pub fn from_bytes(buf: &[u8]) -> HeaderResult
-        ensures { header_answer result ≡ run reading_header buf.now }
+    pub fn from_bytes(buf: &[u8]) -> Result<PduHeader, Refusal>
+        ensures { answer_of result ≡ run reading_header buf.now }
     {
-        let length = length_in(buf);
-        match length {
-            LengthResult::Refused(refusal) => HeaderResult::Refused(refusal),
-            LengthResult::Length(len) => HeaderResult::Header(header_in(&buf[..len])),
-        }
+        let len = length_in(buf)?;
+        Ok(header_in(&buf[..len]))
     }
 }

@@ -1,11 +1,10 @@
 // Numbers of 4 bytes, or 8 with the large file flag (the Rust's `read_fss_field`, `write_fss_field`): offsets and file sizes.
 ghost use Rattle.std.specs.Prelude.{◌≡◌, [], ◌∷◌, ◌≤◌};
-ghost use Rattle.fields.specs.Answer.{all_of};
+ghost use Rattle.fields.specs.Answer.{all_of, answer_of};
 ghost use Rattle.fields.specs.BigEndian.{be_at, be_put};
-ghost use Rattle.header.specs.Answers.{judged_answer};
 ghost use Rattle.header.specs.Size.{size_width, fits_size, size_too_large};
 
-use crate::{Judged, LargeFileFlag};
+use crate::LargeFileFlag;
 use fields::{Refusal, be};
 
 // The bytes of one number.
@@ -26,13 +25,13 @@ pub fn fits_size(file: LargeFileFlag, value: u64) -> bool
 }
 
 // 29: whether a file size fits.
-pub fn judge_file_size(file: LargeFileFlag, value: u64) -> Judged
-    ensures { judged_answer result ≡ all_of (size_too_large file value ∷ []) }
+pub fn judge_file_size(file: LargeFileFlag, value: u64) -> Result<(), Refusal>
+    ensures { answer_of result ≡ all_of (size_too_large file value ∷ []) }
 {
     if !fits_size(file, value) {
-        return Judged::Refused(Refusal::FileSizeTooLarge);
+        return Err(Refusal::FileSizeTooLarge);
     }
-    Judged::Passed
+    Ok(())
 }
 
 // The number at a place; where its bytes do not all lie in `s` it reads as 0. It is read from a part of just its bytes, with its width as a

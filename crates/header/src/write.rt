@@ -1,14 +1,13 @@
 // Writing a header: bytes 0 and 3 are packed by shifts and masks, and each field is written behind the one before.
 ghost use Rattle.std.specs.Prelude.{◌≡◌, ◌+◌, ◌*◌, ◌^◌, ◌≤◌, ◌<◌, [], ◌∷◌, ◌++◌, length, drop};
-ghost use Rattle.fields.specs.Answer.{all_of};
+ghost use Rattle.fields.specs.Answer.{all_of, answer_of};
 ghost use Rattle.fields.specs.BigEndian.{be_put};
-ghost use Rattle.header.specs.Answers.{length_answer, judged_answer};
 ghost use Rattle.header.specs.Header.{header_length, first_byte, fourth_byte, header_bytes};
 ghost use Rattle.header.specs.Judging.{Sound};
 ghost use Rattle.header.specs.Writing.{no_room, writing_header, header_memory};
 
 use crate::flags::CFDP_VERSION_2;
-use crate::{FIXED_HEADER_LEN, HeaderResult, Judged, LengthResult, PduHeader};
+use crate::{FIXED_HEADER_LEN, Flag, PduHeader};
 use fields::{Refusal, be};
 
 // `high`, and below it `low` in k bits.
@@ -19,18 +18,13 @@ fn beside(high: u8, k: u8, low: u8) -> u8
     (high << k) | low
 }
 
-pub(crate) fn first_byte(h: PduHeader) -> u8
+fn first_byte(h: PduHeader) -> u8
     ensures { result ≡ first_byte h }
 {
-    let kind = h.kind;
-    let direction = h.direction;
-    let mode = h.mode;
-    let crc = h.crc;
-    let file = h.file;
-    let two = beside(crc.bit(), 1, file.bit());
-    let three = beside(mode.bit(), 2, two);
-    let four = beside(direction.bit(), 3, three);
-    let five = beside(kind.bit(), 4, four);
+    let two = beside(h.crc.bit(), 1, h.file.bit());
+    let three = beside(h.mode.bit(), 2, two);
+    let four = beside(h.direction.bit(), 3, three);
+    let five = beside(h.kind.bit(), 4, four);
     beside(CFDP_VERSION_2, 5, five)
 }
 
@@ -38,13 +32,11 @@ fn fourth_byte(h: PduHeader) -> u8
     requires { Sound h }
     ensures { result ≡ fourth_byte h }
 {
-    let control = h.control;
-    let metadata = h.metadata;
     let entity = h.width - 1;
     let sequence = h.sequence.0.width - 1;
-    let four = beside(metadata.bit(), 3, sequence);
+    let four = beside(h.metadata.bit(), 3, sequence);
     let seven = beside(entity, 4, four);
-    beside(control.bit(), 7, seven)
+    beside(h.control.bit(), 7, seven)
 }
 
 // Stores an identifier as `write_be` does. The widths below 8 are literals, so that one store and no loop is left of each.
@@ -90,46 +82,33 @@ pub(crate) fn put_header(h: PduHeader, buf: &mut [u8])
 }
 
 // 11: whether a buffer of so many bytes has the room that is needed.
-pub(crate) fn judge_room(found: usize, expected: usize) -> Judged
-    ensures { judged_answer result ≡ all_of (no_room found expected ∷ []) }
+pub(crate) fn judge_room(found: usize, expected: usize) -> Result<(), Refusal>
+    ensures { answer_of result ≡ all_of (no_room found expected ∷ []) }
 {
     if found < expected {
-        return Judged::Refused(Refusal::ToSliceTooSmall { found, expected });
+        return Err(Refusal::ToSliceTooSmall { found, expected });
     }
-    Judged::Passed
+    Ok(())
 }
 
 // The written length, or why a header cannot be written into so many bytes.
-fn writable(h: PduHeader, room: usize) -> LengthResult
-    ensures { length_answer result ≡ writing_header h room }
+fn writable(h: PduHeader, room: usize) -> Result<usize, Refusal>
+    ensures { answer_of result ≡ writing_header h room }
 {
-    let judged = h.judged();
-    match judged {
-        HeaderResult::Refused(refusal) => LengthResult::Refused(refusal),
-        HeaderResult::Header(_) => {
-            let len = h.header_len();
-            let judged = judge_room(room, len);
-            match judged {
-                Judged::Refused(refusal) => LengthResult::Refused(refusal),
-                Judged::Passed => LengthResult::Length(len),
-            }
-        }
-    }
+    h.judged()?;
+    let len = h.header_len();
+    judge_room(room, len)?;
+    Ok(len)
 }
 
 impl PduHeader {
     // The written length. A refused write changes no byte, an accepted one changes the header's bytes and no others.
-    pub fn write_to_slice(self, buf: &mut [u8]) -> LengthResult
-        ensures answered { length_answer result ≡ writing_header self (length buf.old) }
+    pub fn write_to_slice(self, buf: &mut [u8]) -> Result<usize, Refusal>
+        ensures answered { answer_of result ≡ writing_header self (length buf.old) }
         ensures stored { buf.new ≡ header_memory self buf.old }
     {
-        let answer = writable(self, buf.len());
-        match answer {
-            LengthResult::Refused(refusal) => LengthResult::Refused(refusal),
-            LengthResult::Length(len) => {
-                put_header(self, buf);
-                LengthResult::Length(len)
-            }
-        }
+        let len = writable(self, buf.len())?;
+        put_header(self, buf);
+        Ok(len)
     }
 }

@@ -3,6 +3,8 @@
 #![tactic(auto)]
 
 ghost use Rattle.std.specs.Prelude.{◌≡◌};
+ghost use Rattle.std.specs.Result.{ForOk};
+ghost use Rattle.fields.specs.Answer.{answer_of};
 ghost use Rattle.fields.specs.Refusal.{numbers_of};
 ghost use Rattle.fields.specs.Staged.{run};
 ghost use Rattle.nak.specs.Reading.{reading_nak};
@@ -10,8 +12,9 @@ ghost use Rattle.listing.specs.Listing.{is_accepted};
 
 use fields::Refusal;
 use header::PduHeader;
-use nak::requests::{NextRequest, RequestCursor};
-use nak::{Nak, NakResult};
+use nak::Nak;
+use std::fmt;
+use std::fmt::{Display, Write};
 
 pub mod acks;
 pub mod eofs;
@@ -19,23 +22,26 @@ pub mod metadatas;
 pub mod pdus;
 
 // The descriptor of standard output.
+// Kept, by what may not change: `list`, `print_refusal` and the others that are public are given no handle of the runtime, and cannot fail.
 const STDOUT_FILENO: i32 = 1;
 
-// A word, up to two numbers, and the end of the line.
-fn print_line(word: &[u8], count: u8, first: u64, second: u64) {
-    io::write_all(STDOUT_FILENO, word);
-    if 0 < count {
-        print_number(first);
+// Standard output, piece by piece. What it does not take is passed over, so that printing cannot fail, and a reader's answer stands.
+#[derive(Drop)]
+struct Output;
+
+impl Write for Output {
+    fn write_str(&mut self, text: &str) -> fmt::Result {
+        io::write_all(STDOUT_FILENO, text.as_bytes());
+        Ok(())
     }
-    if 1 < count {
-        print_number(second);
-    }
-    io::write_all(STDOUT_FILENO, b"\n");
 }
 
-fn print_number(n: u64) {
-    io::write_all(STDOUT_FILENO, b" ");
-    io::print_decimal(STDOUT_FILENO, n);
+fn print(text: impl Display + Drop) {
+    let _ = write!(Output, "{text}");
+}
+
+fn print_line(text: impl Display + Drop) {
+    let _ = writeln!(Output, "{text}");
 }
 
 // Prints a refusal's number and values; its number.
@@ -43,68 +49,61 @@ pub fn print_refusal(refusal: Refusal) -> u8
     ensures { result ≡ (numbers_of refusal).number }
 {
     let numbers = refusal.numbers();
-    io::write_all(STDOUT_FILENO, b"refused");
-    print_number(numbers.number as u64);
-    print_line(b"", numbers.count, numbers.first, numbers.second);
+    let values = [numbers.first, numbers.second];
+    print(format_args!("refused {}", numbers.number));
+    for value in values.iter().take(numbers.count as usize) {
+        print(format_args!(" {value}"));
+    }
+    print_line("");
     numbers.number
 }
 
-fn print_request(nak: Nak, buf: &[u8], cursor: RequestCursor) -> RequestCursor {
-    let found = nak.next_request(buf, cursor);
-    match found {
-        NextRequest::Pair { start, end, next } => {
-            print_line(b"request", 2, start, end);
-            next
-        }
-        NextRequest::End => cursor,
-    }
-}
-
-fn print_requests(nak: Nak, buf: &[u8], count: usize) {
-    let mut cursor = RequestCursor { at: 0 };
-    let mut i = 0;
-    while i < count {
-        cursor = print_request(nak, buf, cursor);
-        i += 1;
-    }
-}
-
 // What a PDU is, and its source, sequence number and destination.
-fn print_ids(word: &[u8], header: PduHeader) {
-    io::write_all(STDOUT_FILENO, word);
-    print_number(header.source.0);
-    print_line(b"", 2, header.sequence.0.value, header.destination.0);
+fn print_ids(word: &str, header: PduHeader) {
+    let source = header.source.0;
+    let sequence = header.sequence.0.value;
+    let destination = header.destination.0;
+    print_line(format_args!("{word} {source} {sequence} {destination}"));
 }
 
 fn print_condition(code: u8) {
-    print_line(b"condition", 1, code as u64, 0);
+    print_line(format_args!("condition {code}"));
 }
 
 // Where a PDU ends whose data go to its end.
 fn print_end(header: PduHeader) {
-    print_line(b"end", 1, header.data_end() as u64, 0);
+    print_line(format_args!("end {}", header.data_end()));
 }
 
 fn print_nak(nak: Nak, buf: &[u8]) {
-    print_ids(b"nak", nak.header);
-    print_line(b"scope", 2, nak.start, nak.end);
-    print_requests(nak, buf, nak.count);
-    print_line(b"end", 1, nak.stop as u64, 0);
+    print_ids("nak", nak.header);
+    print_line(format_args!("scope {} {}", nak.start, nak.end));
+    for (start, end) in nak.segment_request_iter(buf) {
+        print_line(format_args!("request {start} {end}"));
+    }
+    print_line(format_args!("end {}", nak.stop));
+}
+
+// What was read is printed in its own words, or why it is refused; whether it was accepted.
+fn listed<T, F: FnOnce(T)>(read: Result<T, Refusal>, print: F) -> bool
+    requires { ForOk read (F.pre print) }
+    ensures { result ≡ is_accepted (answer_of read) }
+{
+    match read {
+        Err(refusal) => {
+            print_refusal(refusal);
+            false
+        }
+        Ok(pdu) => {
+            print(pdu);
+            true
+        }
+    }
 }
 
 // Reads a NAK and prints it; whether it was accepted.
 pub fn list(buf: &[u8]) -> bool
     ensures { result ≡ is_accepted (run reading_nak buf.now) }
 {
-    let read = Nak::from_bytes(buf);
-    match read {
-        NakResult::Refused(refusal) => {
-            print_refusal(refusal);
-            false
-        }
-        NakResult::Nak(nak) => {
-            print_nak(nak, buf);
-            true
-        }
-    }
+    listed(Nak::from_bytes(buf), |nak| print_nak(nak, buf))
 }

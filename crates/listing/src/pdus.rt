@@ -9,7 +9,7 @@ use ack::ACK_CODE;
 use eof::EOF_CODE;
 use fields::Refusal;
 use metadata::METADATA_CODE;
-use nak::{Nak, NakResult};
+use nak::Nak;
 
 fn list_refusal(refusal: Refusal) -> bool
     ensures { result ≡ false }
@@ -19,24 +19,19 @@ fn list_refusal(refusal: Refusal) -> bool
 }
 
 // Of a PDU that is refused as a NAK.
+#[tactic(auto, unfolding(crate::specs::Pdus::is_listed_as))]
 fn list_other(refusal: Refusal, buf: &[u8]) -> bool
     ensures { result ≡ is_listed_as (numbers_of refusal).number (numbers_of refusal).first buf.now }
 {
-    let numbers = refusal.numbers();
-    let code = numbers.first;
-    if numbers.number != 8 {
+    let Refusal::WrongDirectiveType(code) = refusal else {
         return list_refusal(refusal);
+    };
+    match code {
+        EOF_CODE => eofs::list(buf),
+        ACK_CODE => acks::list(buf),
+        METADATA_CODE => metadatas::list(buf),
+        _ => list_refusal(refusal),
     }
-    if code == EOF_CODE as u64 {
-        return eofs::list(buf);
-    }
-    if code == ACK_CODE as u64 {
-        return acks::list(buf);
-    }
-    if code == METADATA_CODE as u64 {
-        return metadatas::list(buf);
-    }
-    list_refusal(refusal)
 }
 
 // Reads a directive PDU and prints it; whether it was accepted.
@@ -45,8 +40,8 @@ pub fn list(buf: &[u8]) -> bool
 {
     let read = Nak::from_bytes(buf);
     match read {
-        NakResult::Refused(refusal) => list_other(refusal, buf),
-        NakResult::Nak(nak) => {
+        Err(refusal) => list_other(refusal, buf),
+        Ok(nak) => {
             print_nak(nak, buf);
             true
         }

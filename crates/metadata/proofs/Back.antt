@@ -8,6 +8,7 @@ use native.Mathlib.Omega.{arith}
 use lib.Dec.{eqb}
 use lib.ListN.{length, get_or, take, drop, length-append, length-drop}
 use lib.Seq.{drop_at, take_all}
+use Rattle.std.specs.Prelude.{Result, Ok}
 use borrow.Author.Tests.{le-ltb}
 use Rattle.fields.specs.BigEndian.{number_at}
 use Rattle.fields.specs.Answer.{accepted}
@@ -25,8 +26,7 @@ use Rattle.header.proofs.Verifying.{pdu_sum, end_sum}
 use Rattle.header.proofs.Codes.{known_range}
 use Rattle.header.proofs.PdusBack.{reads_content, over_length, content_there}
 use Rattle.tlv.specs.declared.Form.TheVariants.{Lv, Tlv}
-use Rattle.tlv.specs.declared.walk.FirstCut.{FirstCut}
-use Rattle.tlv.specs.declared.walk.FirstCut.TheVariants.{Nothing}
+use Rattle.tlv.specs.declared.Cut.{Cut}
 use Rattle.tlv.specs.Form.{field_bytes}
 use Rattle.tlv.specs.Reading.{stop_at, is_whole}
 use Rattle.tlv.specs.Walking.{first_cut}
@@ -178,7 +178,7 @@ module _ (p : MetadataParams) (source destination options : List ℕ) (own : Pas
     options_back =
         ap (drop n₂) (parts ∙ sym (append_assoc P X (Y ++ options)) ∙ sym (append_assoc (P ++ X) Y options)) ∙ drop_at ((P ++ X) ++ Y) options n₂ before_options
 
-    uncut : first_cut Tlv c n₂ ≡ Nothing
+    uncut : first_cut Tlv c n₂ ≡ Ok tt
     unfolding n₂
     uncut =
         (part_shows Tlv c n₂ second.inside).cut
@@ -192,7 +192,7 @@ module _ (p : MetadataParams) (source destination options : List ℕ) (own : Pas
         let a = ap not first.all in
         let b = ap not second.all in (
           le-ltb _ _ l,
-          (ap (λ (n : ℕ). not (is_type n)) type_back ∙ type_allowed, (a, (b, (ap (λ (x : FirstCut). (option_cut (header_length k) x).holds) uncut, tt)))),
+          (ap (λ (n : ℕ). not (is_type n)) type_back ∙ type_allowed, (a, (b, (ap (λ (x : Result (Unit {0}) Cut). (option_cut (header_length k) x).holds) uncut, tt)))),
         )
 
     -- ---- and in the bytes

@@ -8,6 +8,7 @@ use native.Mathlib.Nat.{zero-add}
 use native.Mathlib.Omega.{arith}
 use lib.ListN.{length, take, drop, set, length-append}
 use lib.Seq.{sets, length-sets}
+use Rattle.std.specs.Prelude.{Result, Ok, Err}
 use borrow.Author.Tests.{ltb-false, lt-ltb, le-ltb, not-false}
 use Rattle.fields.specs.BigEndian.{be_at, be_put}
 use Rattle.fields.specs.Answer.{Answer, accepted, refused, told, Test, first_of, all_of}
@@ -24,8 +25,7 @@ use Rattle.header.specs.Directive.{data_short, reading_own}
 use Rattle.header.proofs.Sizes.{size_high, size_fits}
 use Rattle.header.proofs.Directives.{OwnRead, refused_own, read_own}
 use Rattle.tlv.specs.declared.Form.TheVariants.{Lv, Tlv}
-use Rattle.tlv.specs.declared.walk.FirstCut.{FirstCut}
-use Rattle.tlv.specs.declared.walk.FirstCut.TheVariants.{At, Nothing}
+use Rattle.tlv.specs.declared.Cut.{Cut}
 use Rattle.tlv.specs.Form.{field_bytes}
 use Rattle.tlv.specs.Walking.{first_cut}
 use Rattle.tlv.specs.Writing.{field_put, bytes_put}
@@ -137,11 +137,11 @@ module _ (source destination options : List ℕ) where
     long_destination l = rw (told_is_refused 31 _ refl, le-ltb _ _ s, lt-ltb _ _ l)
 
     module _ (d : length destination ≤ 255) where
-      pub cut_option : (place : ℕ) → At place ≡ first_cut Tlv options 0 → told (25 ∷ place ∷ []) ≡ lent
+      pub cut_option : (cut : Cut) → Err cut ≡ first_cut Tlv options 0 → told (25 ∷ cut.at ∷ []) ≡ lent
       unfolding lent_tests
-      cut_option place e = rw (told_is_refused 25 _ refl, le-ltb _ _ s, le-ltb _ _ d, ← e) (ap (λ (n : ℕ). refused (25 ∷ n ∷ [])) (sym (zero-add place)))
+      cut_option cut e = rw (told_is_refused 25 _ refl, le-ltb _ _ s, le-ltb _ _ d, ← e) (ap (λ (n : ℕ). refused (25 ∷ n ∷ [])) (sym (zero-add cut.at)))
 
-      pub lent_passes : Nothing ≡ first_cut Tlv options 0 → accepted tt ≡ lent
+      pub lent_passes : Ok tt ≡ first_cut Tlv options 0 → accepted tt ≡ lent
       unfolding lent_tests
       lent_passes e = rw (le-ltb _ _ s, le-ltb _ _ d, ← e)
 
@@ -149,16 +149,16 @@ module _ (source destination options : List ℕ) where
 pub record Lent (source destination options : List ℕ) : Type 0 where
   pub source_small : length source ≤ 255
   pub destination_small : length destination ≤ 255
-  pub uncut : first_cut Tlv options 0 ≡ Nothing
+  pub uncut : first_cut Tlv options 0 ≡ Ok tt
 
 pub lent_good : (source destination options : List ℕ) → Passed (lent_tests source destination options) → Lent source destination options
 unfolding lent_tests
 lent_good source destination options p =
     record { source_small = ltb-false _ _ p.0; destination_small = ltb-false _ _ p.1.0; uncut = go (first_cut Tlv options 0) p.1.1.0 }
   where
-    go : (k : FirstCut) → (option_cut 0 k).holds ≡ false → k ≡ Nothing
-    go (At place) e = let z : ◌≡◌ {A = ℕ} 0 1 = cc in absurd (omega arith)
-    go Nothing e = refl
+    go : (k : Result (Unit {0}) Cut) → (option_cut 0 k).holds ≡ false → k ≡ Ok tt
+    go (Err cut) e = absurd (cc)
+    go (Ok none) e = refl
 
 -- ---- d, and that it fits
 
@@ -310,3 +310,11 @@ module _ (p : MetadataParams) (source destination options s : List ℕ) (at w : 
       e'
       ∙ ap₂ (λ (x : List ℕ) (i : ℕ). sets x i (lent_data source destination options)) e (sym n)
       ∙ sym (sets_append (fixed_data p) (lent_data source destination options) s at)
+
+-- ---- what the proofs of these functions cite
+
+pub ruleset for_data_length = (fixed_refused, lent_refused, names_short, too_large_lem, has_length)
+
+pub ruleset for_judge = (long_source, long_destination, cut_option, lent_passes)
+
+pub ruleset for_metadata_in = (data_short_lem, long_enough, type_refused, names_refused, metadata_read)

@@ -1,36 +1,29 @@
 -- The statements of specs/Demands, proved.
 -- Assumes nothing.
+use Rattle.std.specs.Prelude.{Ok, Err}
 use mathlib.Core.Path.{◌≡◌, refl, ap, ◌∙◌}
 use mathlib.Core.List.{◌++◌}
 use lib.ListN.{length, drop}
+use Rattle.fields.specs.Answer.{answer_of}
 use Rattle.fields.specs.Staged.{run}
-use Rattle.fields.proofs.OneToOne.{answer_back, told_back, one_to_one}
+use Rattle.fields.proofs.OneToOne.{one_answer}
 use Rattle.fields.proofs.Demand3.{code_demand3}
 use Rattle.header.specs.declared.pdu.PduWritten.{PduWritten}
 use Rattle.header.specs.Pdu.{pdu_over}
 use Rattle.header.proofs.Directives.{reader_demand3}
 use Rattle.header.proofs.Pdus.{written_has, memory_has}
-use Rattle.metadata.specs.declared.MetadataResult.{MetadataResult}
-use Rattle.metadata.specs.declared.MetadataResult.TheVariants.{Metadata as Read, Refused}
 use Rattle.metadata.specs.Metadata.{metadata_in}
-use Rattle.metadata.specs.Reading.{metadata_answer, read_tests, reading_metadata}
+use Rattle.metadata.specs.Reading.{read_tests, reading_metadata}
 use Rattle.metadata.specs.Writing.{metadata_data, filled, own_tests, writing_metadata, metadata_memory}
-use Rattle.metadata.specs.Demands.{WrittenReadsBack, CodeReadsBack, MetadataDemand3, MetadataCodeDemand3, OneMetadataResult}
+use Rattle.metadata.specs.Demands.{WrittenReadsBack, CodeReadsBack, MetadataDemand3, MetadataCodeDemand3}
 use Rattle.metadata.proofs.Back.{reads_back}
-
-back : (r : MetadataResult) → answer_back Read Refused (metadata_answer r) ≡ r
-back (Read a) = refl
-back (Refused r) = told_back Read Refused r
-
-pub one_metadata_result : OneMetadataResult
-one_metadata_result = one_to_one metadata_answer (answer_back Read Refused) back
 
 pub metadata_demand3 : MetadataDemand3
 unfolding reading_metadata
 metadata_demand3 = reader_demand3 7 read_tests metadata_in
 
 pub metadata_code_demand3 : MetadataCodeDemand3
-metadata_code_demand3 = code_demand3 (run reading_metadata) metadata_answer Refused (λ x. refl) 4 metadata_demand3 one_metadata_result
+metadata_code_demand3 = code_demand3 (run reading_metadata) answer_of Err (λ x. refl) 4 metadata_demand3 (one_answer _)
 
 pub written_reads_back : WrittenReadsBack
 unfolding writing_metadata
@@ -49,6 +42,6 @@ code_reads_back p source destination options s w r e q =
     let k = written_reads_back p source destination options (length s) (drop (length (pdu_over w.header content)) s) w e in
     record {
       read = k.read;
-      answers = one_metadata_result r (Read k.read) (q ∙ ap (run reading_metadata) m ∙ k.reads);
+      answers = one_answer _ r (Ok k.read) (q ∙ ap (run reading_metadata) m ∙ k.reads);
       same = rw m k.same;
     }

@@ -8,6 +8,7 @@ use mathlib.Core.List.{List}
 use native.Mathlib.Omega.{arith}
 use lib.ListN.{length, take, drop, length-drop}
 use lib.Seq.{drop-drop, take_all}
+use Rattle.std.specs.Prelude.{Result, Ok, Err}
 use Rattle.fields.specs.BigEndian.{Bytes}
 use Rattle.fields.specs.Answer.{accepted}
 use Rattle.fields.specs.Staged.{run}
@@ -20,8 +21,7 @@ use Rattle.header.specs.Directive.{reading_directive}
 use Rattle.header.proofs.Directives.{OwnRead, next}
 use Rattle.header.proofs.OwnData.{data_in}
 use Rattle.tlv.specs.declared.Form.TheVariants.{Lv, Tlv}
-use Rattle.tlv.specs.declared.walk.FirstCut.{FirstCut}
-use Rattle.tlv.specs.declared.walk.FirstCut.TheVariants.{At, Nothing}
+use Rattle.tlv.specs.declared.Cut.{Cut}
 use Rattle.tlv.specs.Reading.{stop_at, is_whole}
 use Rattle.tlv.specs.Walking.{first_cut}
 use Rattle.tlv.specs.Parts.{further_on}
@@ -57,13 +57,13 @@ whole_in c at e = ⊎_elim (λ w. w) (λ l. contradicted l) (whole? Lv c at)
         let z : ◌≡◌ {A = ℕ} 0 1 = cc in
         absurd (omega arith)
 
-none_cut : (from : ℕ) (k : FirstCut) → (option_cut from k).holds ≡ false → k ≡ Nothing
-none_cut from (At place) e = let z : ◌≡◌ {A = ℕ} 0 1 = cc in absurd (omega arith)
-none_cut from Nothing e = refl
+none_cut : (from : ℕ) (k : Result (Unit {0}) Cut) → (option_cut from k).holds ≡ false → k ≡ Ok tt
+none_cut from (Err cut) e = absurd (cc)
+none_cut from (Ok none) e = refl
 
-nearer : (n : ℕ) (k : FirstCut) → further_on n k ≡ Nothing → k ≡ Nothing
-nearer n (At place) e = let z : ◌≡◌ {A = ℕ} 0 1 = cc in absurd (omega arith)
-nearer n Nothing e = refl
+nearer : (n : ℕ) (k : Result (Unit {0}) Cut) → further_on n k ≡ Ok tt → k ≡ Ok tt
+nearer n (Err cut) e = absurd (cc)
+nearer n (Ok none) e = refl
 
 -- where the options begin
 abbrev options_at : PduHeader → List ℕ → ℕ
@@ -76,9 +76,9 @@ record Accepted (s : List ℕ) (m : Metadata) : Type 0 where
   content_is : take (data_end header - header_length header) (drop (header_length header) s) ≡ content
   is : m ≡ metadata_in header content
   inside : options_at header content ≤ length content
-  uncut : first_cut Tlv content (options_at header content) ≡ Nothing
+  uncut : first_cut Tlv content (options_at header content) ≡ Ok tt
 
-passed_says : (h : PduHeader) (c : List ℕ) → Passed (read_tests h c) → (options_at h c ≤ length c) × (first_cut Tlv c (options_at h c) ≡ Nothing)
+passed_says : (h : PduHeader) (c : List ℕ) → Passed (read_tests h c) → (options_at h c ≤ length c) × (first_cut Tlv c (options_at h c) ≡ Ok tt)
 unfolding read_tests name_tests
 passed_says h c p = (whole_in c _ p.1.1.1.0, none_cut (header_length h) _ p.1.1.1.1.0)
 
@@ -109,7 +109,7 @@ area_is s m a =
     ∙ part_in s c h (length c) o (length c) (ap (λ (n : ℕ). take n (drop h s)) l ∙ a.content_is) (omega (arith, a.lies.inside)) a.inside (omega arith)
     ∙ take_all (length c - o) (drop o c) (omega (arith, length-drop o c))
 
-area_uncut : (s : List ℕ) (m : Metadata) (a : Accepted s m) → first_cut Tlv (part_of m.options s) 0 ≡ Nothing
+area_uncut : (s : List ℕ) (m : Metadata) (a : Accepted s m) → first_cut Tlv (part_of m.options s) 0 ≡ Ok tt
 area_uncut s m a =
     let c = a.content in
     let o = options_at a.header c in

@@ -1,7 +1,8 @@
 -- What is proved of this layer, beside the demand that it meets.
-use Rattle.std.specs.Prelude.{ℕ, ◌≤◌, ◌≡◌, List, ◌++◌, map, length}
+use Rattle.std.specs.Prelude.{ℕ, ◌≤◌, ◌≡◌, List, ◌++◌, map, length, Result, Ok, Err}
+use Rattle.fields.specs.declared.refusal.Refusal.{Refusal}
 use Rattle.fields.specs.BigEndian.{Bytes}
-use Rattle.fields.specs.Answer.{accepted}
+use Rattle.fields.specs.Answer.{accepted, answer_of}
 use Rattle.fields.specs.Staged.{run}
 use Rattle.fields.specs.Demand3.{Demand3, CodeDemand3}
 use Rattle.header.specs.declared.PduHeader.{PduHeader}
@@ -12,10 +13,8 @@ use Rattle.tlv.specs.Walking.{fields_of}
 use Rattle.tlv.specs.Shown.{Walked}
 use Rattle.metadata.specs.declared.MetadataParams.{MetadataParams}
 use Rattle.metadata.specs.declared.Metadata.{Metadata}
-use Rattle.metadata.specs.declared.MetadataResult.{MetadataResult}
-use Rattle.metadata.specs.declared.MetadataResult.TheVariants.{Metadata as Read, Refused}
 use Rattle.metadata.specs.Metadata.{part_of}
-use Rattle.metadata.specs.Reading.{metadata_answer, reading_metadata}
+use Rattle.metadata.specs.Reading.{reading_metadata}
 use Rattle.metadata.specs.Writing.{metadata_data, writing_metadata, metadata_memory}
 use Rattle.metadata.specs.Cases.{cases, gives}
 
@@ -39,15 +38,15 @@ WrittenReadsBack =
     → ReadsAs w.header p source destination options (pdu_over w.header (metadata_data p source destination options) ++ t)
 
 -- DEMAND 2: so does the buffer that an accepted write left, by the code's own answer
-pub record CodeReadsAs (h : PduHeader) (p : MetadataParams) (source destination options : List ℕ) (s : List ℕ) (r : MetadataResult) : Type 0 where
+pub record CodeReadsAs (h : PduHeader) (p : MetadataParams) (source destination options : List ℕ) (s : List ℕ) (r : Result Metadata Refusal) : Type 0 where
   pub read : Metadata
-  pub answers : r ≡ Read read
+  pub answers : r ≡ Ok read
   pub same : Same h p source destination options s read
 
 abbrev pub CodeReadsBack : Type 0
 CodeReadsBack =
-    (p : MetadataParams) (source destination options s : List ℕ) (w : PduWritten) (r : MetadataResult) → writing_metadata p source destination options (length s) ≡ accepted w
-    → metadata_answer r ≡ run reading_metadata (metadata_memory p source destination options s)
+    (p : MetadataParams) (source destination options s : List ℕ) (w : PduWritten) (r : Result Metadata Refusal) → writing_metadata p source destination options (length s) ≡ accepted w
+    → answer_of r ≡ run reading_metadata (metadata_memory p source destination options s)
     → CodeReadsAs w.header p source destination options (metadata_memory p source destination options s) r
 
 -- the options of a PDU that was read, walked from the area's start in enough steps: all of them, then the end for ever; and their bytes, one behind the other, are the area
@@ -62,11 +61,7 @@ MetadataDemand3 = Demand3 (run reading_metadata) 4
 
 -- and its first three parts, of the code's own answers
 abbrev pub MetadataCodeDemand3 : Type 0
-MetadataCodeDemand3 = CodeDemand3 (run reading_metadata) metadata_answer Refused
-
--- 'How much each promise says': the answers leave one value
-abbrev pub OneMetadataResult : Type 0
-OneMetadataResult = (a b : MetadataResult) → metadata_answer a ≡ metadata_answer b → a ≡ b
+MetadataCodeDemand3 = CodeDemand3 (run reading_metadata) answer_of Err
 
 -- the worked examples
 abbrev pub WorkedCases : Type 0

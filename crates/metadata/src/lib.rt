@@ -2,12 +2,11 @@
 #![tactic(auto)]
 
 ghost use Rattle.std.specs.Prelude.{◌≡◌};
-ghost use Rattle.fields.specs.Answer.{all_of};
-ghost use Rattle.header.specs.Answers.{judged_answer};
+ghost use Rattle.fields.specs.Answer.{all_of, answer_of};
 ghost use Rattle.metadata.specs.Metadata.{type_tests};
 
 use fields::Refusal;
-use header::{Judged, PduHeader};
+use header::PduHeader;
 
 pub mod parts;
 pub mod read;
@@ -20,14 +19,14 @@ pub const METADATA_CODE: u8 = 7;
 pub const SIZE_AT: usize = 2;
 
 // A part of the bytes that a PDU was read from: the bytes from `start` up to `stop`.
-#[derive(Clone, Copy)]
+#[derive(Clone, Copy, PartialEq, Eq, Hash, Debug)]
 pub struct Part {
     pub start: usize,
     pub stop: usize,
 }
 
 // All but names and options (the Rust's `MetadataGenericParams`, and the header).
-#[derive(Clone, Copy)]
+#[derive(Clone, Copy, PartialEq, Eq, Debug)]
 pub struct MetadataParams {
     pub header: PduHeader,
     // closure_requested
@@ -39,7 +38,7 @@ pub struct MetadataParams {
 }
 
 // A Metadata PDU that was read. Names and options stand in the bytes that it was read from.
-#[derive(Clone, Copy)]
+#[derive(Clone, Copy, PartialEq, Eq, Debug)]
 pub struct Metadata {
     pub params: MetadataParams,
     // src_file_name
@@ -50,21 +49,14 @@ pub struct Metadata {
     pub options: Part,
 }
 
-// A Metadata PDU, or why there is none.
-#[derive(Clone, Copy)]
-pub enum MetadataResult {
-    Metadata(Metadata),
-    Refused(Refusal),
-}
-
 // 30: whether a checksum type is in the Rust's list.
-fn judge_type(kind: u8) -> Judged
-    ensures { judged_answer result ≡ all_of (type_tests kind) }
+// Kept: a type is any `u8`: a caller may give any, and 30 refuses the others.
+#[tactic(auto, using(crate::proofs::Types::type_lacks, crate::proofs::Types::type_none, crate::proofs::Types::type_low))]
+fn judge_type(kind: u8) -> Result<(), Refusal>
+    ensures { answer_of result ≡ all_of (type_tests kind) }
 {
-    if 3 < kind {
-        if kind != 15 {
-            return Judged::Refused(Refusal::InvalidChecksumType);
-        }
+    match kind {
+        0..=3 | 15 => Ok(()),
+        _ => Err(Refusal::InvalidChecksumType),
     }
-    Judged::Passed
 }

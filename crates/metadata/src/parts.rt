@@ -5,10 +5,11 @@ ghost use Rattle.metadata.specs.Metadata.{part_of};
 
 use crate::{Metadata, Part};
 use tlv::walk::{FieldCursor, NextField};
-use tlv::{Field, Form};
+use tlv::{Cut, Field, Form};
 
 impl Part {
     // The part itself. One that does not lie in `buf` is empty.
+    #[tactic(auto, unfolding(crate::specs::Metadata::part_of))]
     pub fn of(self, buf: &[u8]) -> &[u8]
         ensures { result.now ≡ part_of self buf.now }
     {
@@ -25,28 +26,25 @@ impl Metadata {
     pub fn source_name(self, buf: &[u8]) -> &[u8]
         ensures { result.now ≡ part_of self.source buf.now }
     {
-        let part = self.source;
-        part.of(buf)
+        self.source.of(buf)
     }
 
     pub fn destination_name(self, buf: &[u8]) -> &[u8]
         ensures { result.now ≡ part_of self.destination buf.now }
     {
-        let part = self.destination;
-        part.of(buf)
+        self.destination.of(buf)
     }
 
     pub fn option_area(self, buf: &[u8]) -> &[u8]
         ensures { result.now ≡ part_of self.options buf.now }
     {
-        let part = self.options;
-        part.of(buf)
+        self.options.of(buf)
     }
 }
 
 // The option at a cursor of an area, which starts at 0: its type, where its value lies in the area, and the cursor behind it; nothing any
 // more; or that it is cut, which no area of an accepted PDU shows.
-pub fn next_option(area: &[u8], cursor: FieldCursor) -> NextField
+pub fn next_option(area: &[u8], cursor: FieldCursor) -> Result<Option<NextField>, Cut>
     ensures { result ≡ next_field Form.Tlv area.now cursor.at }
 {
     cursor.next(area, Form::Tlv)

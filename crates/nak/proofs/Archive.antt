@@ -17,7 +17,7 @@ use Rattle.header.specs.declared.flags.LargeFileFlag.{LargeFileFlag}
 use Rattle.header.specs.declared.pdu.PduWritten.{PduWritten}
 use Rattle.header.specs.Header.{pdu_length, data_end}
 use Rattle.header.specs.Size.{size_width}
-use Rattle.header.proofs.FlagBits.{crc_bit_lem}
+use Rattle.header.specs.Flags.{crc_laws}
 use Rattle.header.proofs.Verifying.{at_least, pdu_sum, end_sum}
 use Rattle.header.proofs.PdusBack.{over_length}
 use Rattle.nak.specs.declared.Nak.{Nak}
@@ -71,7 +71,7 @@ one_cut (p ∷ ps) (q ∷ qs) a b e =
 -- no bytes are no NAK
 no_nak : (n : Nak) (s : List ℕ) → s ≡ [] → run reading_nak s ≡ accepted n → ⊥
 no_nak n s z e =
-    let a = accepted_shows s n e in omega (arith, ap length z, a.inside, a.up_to, end_sum n.header, at_least n.header _ refl, crc_bit_lem n.header.crc)
+    let a = accepted_shows s n e in omega (arith, ap length z, a.inside, a.up_to, end_sum n.header, at_least n.header _ refl, crc_laws.small n.header.crc)
 
 pub one_reading : OneReading
 one_reading [] [] s a b = refl

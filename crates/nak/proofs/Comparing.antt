@@ -6,13 +6,13 @@ use mathlib.Core.Bool.{Bool, true, false, ◌&&◌}
 use mathlib.Core.List.{List, [], ◌∷◌, ◌++◌}
 use native.Mathlib.Omega.{arith}
 use lib.Dec.{eqb, leb}
-use lib.ListN.{length, get_or, drop, length-append, length-drop, drop_of_length-le}
-use lib.Seq.{drop_at, drop-cons, drop-drop}
+use lib.ListN.{length, drop, length-append, length-drop}
+use lib.Seq.{drop_at, drop-drop}
 use borrow.Author.Tests.{lt-leb, le-leb, leb-true, eqb-true, eqb-false, eq-eqb, ne_eqb}
-use Rattle.fields.specs.BigEndian.{number_at, be_at, be_bytes}
+use Rattle.fields.specs.BigEndian.{number_at, be_bytes}
 use Rattle.fields.specs.Answer.{Answer, accepted, short, refused, told, and_then, first_of}
 use Rattle.fields.specs.Staged.{run}
-use Rattle.fields.proofs.BigEndian.{at_number, number_drop, number_back, be_length}
+use Rattle.fields.proofs.BigEndian.{number_drop, number_back, be_length}
 use Rattle.fields.proofs.Judging.{Passed, passed, passed_last, refused_after, passed_after, refused_then, same_accepted, went}
 use Rattle.header.specs.declared.PduHeader.{PduHeader}
 use Rattle.header.specs.declared.pdu.PduWritten.{PduWritten}
@@ -36,52 +36,26 @@ use Rattle.nak.proofs.Tests.{own_passed}
 use Rattle.nak.proofs.Writing.{to_write}
 use Rattle.nak.proofs.RoundTrip.{halves, written_reads_back}
 
--- ---- header and scope
+-- ---- the numbers: the first of those that are left, v, against what is left of the area
 
-module _ (n : Nak) (w : PduHeader) (start end : ℕ) where
-  pub other_header : same_header n.header w ≡ false → false ≡ same_nak n w start end
-  unfolding same_nak
-  other_header e = rw e
-
-  module _ (h : same_header n.header w ≡ true) where
-    pub other_start : (n.start ≡ start → ⊥) → false ≡ same_nak n w start end
-    unfolding same_nak
-    other_start e = rw (h, ne_eqb _ _ e)
-
-    pub the_end : n.start ≡ start → eqb n.end end ≡ same_nak n w start end
-    unfolding same_nak
-    the_end e = rw (h, eq-eqb _ _ e)
-
--- ---- the numbers
-
-module _ (w : ℕ) (area ns : List ℕ) (at i : ℕ) (in_area_lem : at ≤ length area) (more : i < length ns) where
-  here : holds_numbers w (drop at area) (drop i ns) ≡ (leb w (length area - at) && eqb (number_at area at w) (get_or ns i 0) && holds_numbers w (drop (at + w) area) (drop (i + 1) ns))
+module _ (w : ℕ) (area : List ℕ) (at : ℕ) (v : ℕ) (ns : List ℕ) where
+  here : holds_numbers w (drop at area) (v ∷ ns) ≡ (leb w (length area - at) && eqb (number_at area at w) v && holds_numbers w (drop (at + w) area) ns)
   unfolding holds_numbers
-  here =
-      let v = get_or ns i 0 in
-      let one : suc i ≡ i + 1 = omega arith in
-      ap (holds_numbers w (drop at area)) (drop-cons ns i 0 more)
-      ∙ ap (λ (x : ℕ). leb w (length (drop at area)) && eqb x v && holds_numbers w (drop w (drop at area)) (drop (suc i) ns)) (number_drop area at w)
-      ∙ ap (λ (k : ℕ). leb w k && eqb (number_at area at w) v && holds_numbers w (drop w (drop at area)) (drop (suc i) ns)) (length-drop at area)
-      ∙ ap (λ (z : List ℕ). leb w (length area - at) && eqb (number_at area at w) v && holds_numbers w z (drop (suc i) ns)) (drop-drop w at area)
-      ∙ ap (λ (k : ℕ). leb w (length area - at) && eqb (number_at area at w) v && holds_numbers w (drop (at + w) area) (drop k ns)) one
+  here = rw (number_drop area at w, length-drop at area, drop-drop w at area) refl
 
-  pub number_short : length area - at < w → false ≡ holds_numbers w (drop at area) (drop i ns)
+  pub number_short : length area - at < w → false ≡ holds_numbers w (drop at area) (v ∷ ns)
   number_short l = rw (here, lt-leb _ _ l)
 
-  module _ (fits : w ≤ length area - at) (small : w ≤ 8) (v x : ℕ) (px : x ≡ be_at area at w) (pv : v ≡ get_or ns i 0) where
-    read : x ≡ number_at area at w
-    read = px ∙ at_number area at w small (omega arith)
+  module _ (fits : w ≤ length area - at) (x : ℕ) (read : x ≡ number_at area at w) where
+    pub number_differs : (x ≡ v → ⊥) → false ≡ holds_numbers w (drop at area) (v ∷ ns)
+    number_differs d = rw (here, le-leb _ _ fits, ← read, ne_eqb _ _ d)
 
-    pub number_differs : (x ≡ v → ⊥) → false ≡ holds_numbers w (drop at area) (drop i ns)
-    number_differs d = rw (here, le-leb _ _ fits, ← read, ← pv, ne_eqb _ _ d)
+    pub number_same : x ≡ v → holds_numbers w (drop (at + w) area) ns ≡ holds_numbers w (drop at area) (v ∷ ns)
+    number_same d = rw (here, le-leb _ _ fits, ← read, eq-eqb _ _ d)
 
-    pub number_same : x ≡ v → holds_numbers w (drop (at + w) area) (drop (i + 1) ns) ≡ holds_numbers w (drop at area) (drop i ns)
-    number_same d = rw (here, le-leb _ _ fits, ← read, ← pv, eq-eqb _ _ d)
-
-pub numbers_end : (w : ℕ) (area ns : List ℕ) (at i : ℕ) → at ≤ length area → length ns ≤ i → eqb at (length area) ≡ holds_numbers w (drop at area) (drop i ns)
+pub numbers_end : (w : ℕ) (area : List ℕ) (at : ℕ) → at ≤ length area → eqb at (length area) ≡ holds_numbers w (drop at area) []
 unfolding holds_numbers
-numbers_end w area ns at i h e = rw (drop_of_length-le ns e, length-drop) (go (eqb at (length area)) refl)
+numbers_end w area at h = rw length-drop (go (eqb at (length area)) refl)
   where
     go : (b : Bool) → eqb at (length area) ≡ b → eqb at (length area) ≡ eqb (length area - at) 0
     go true p =
@@ -156,11 +130,10 @@ module _ (file : LargeFileFlag) (h : PduHeader) (start end : ℕ) (numbers s : L
         ap (comparing_read file h start end (length numbers) n) (pb ∙ rw (pu, pa)) ∙ ap (λ (o : Answer Nak). and_then o decide) e
 
     -- with no list, no byte may stand in the area
-    pub nothing_decides : (m : ℕ) (area : List ℕ) → area ≡ area_of n s → m ≡ length area → numbers ≡ []
-        → comparing_read file h start end (length numbers) n (eqb m 0) ≡ comparing file h start end numbers s
+    pub nothing_decides : (b : Bool) (area : List ℕ) → area ≡ area_of n s → b ≡ eqb (length area) 0 → numbers ≡ []
+        → comparing_read file h start end (length numbers) n b ≡ comparing file h start end numbers s
     unfolding holds_numbers
-    nothing_decides m area pa pm none =
-        list_decides (size_width file) area (eqb m 0) refl pa (ap (λ (j : ℕ). eqb j 0) pm ∙ ap (holds_numbers (size_width file) area) (sym none))
+    nothing_decides b area pa pb none = list_decides (size_width file) area b refl pa (pb ∙ ap (holds_numbers (size_width file) area) (sym none))
 
 -- ---- comparing says yes on what was written
 

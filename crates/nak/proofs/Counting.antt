@@ -42,15 +42,8 @@ module _ (h : PduHeader) (size : ℕ) (good : Passed (directive_tests h)) (least
   too_small l = rw (told_is_refused 15 _ refl, rest, ← is, lt-ltb _ _ l)
 
   module _ (pair most : ℕ) (pp : pair ≡ pair_size h.file) (pm : most ≡ most_pairs h.file) (l : least ≤ size) where
-    pub limited : most < (size - least) / pair → accepted most ≡ most_requests h size
-    limited k =
-        let e : min ((size - least) / pair) most ≡ most = omega arith in
-        rw (rest, ← is, le-ltb _ _ l, ← pp, ← pm, e)
-
-    pub counted : (size - least) / pair ≤ most → accepted ((size - least) / pair) ≡ most_requests h size
-    counted k =
-        let e : min ((size - least) / pair) most ≡ (size - least) / pair = omega arith in
-        rw (rest, ← is, le-ltb _ _ l, ← pp, ← pm, e)
+    pub counted : accepted (min ((size - least) / pair) most) ≡ most_requests h size
+    counted = rw (rest, ← is, le-ltb _ _ l, ← pp, ← pm)
 
 -- ---- so many are accepted by the writer, and no more
 

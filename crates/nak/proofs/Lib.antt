@@ -1,8 +1,8 @@
 -- Laws of the definitions. The proof of a function stands in the folder of its name.
 pub mod Reading
 pub mod Walking
-mod Held
 pub mod Tests
+pub mod Offsets
 pub mod Storing
 pub mod Writing
 pub mod Reserving

@@ -26,16 +26,16 @@ pub area_is : (h : PduHeader) (a w : ℕ) → a ≡ header_length h → w ≡ si
 unfolding area_start
 area_is h a w p q = rw (p, q)
 
-module _ (h : PduHeader) (content : List ℕ) (area stop : ℕ) (pb : area ≡ area_start h) (before : area ≤ stop) (size : header_length h + length content ≡ stop) where
+module _ (h : PduHeader) (content : List ℕ) (before : area_start h ≤ data_end h) (size : header_length h + length content ≡ data_end h) where
   -- the scope lies in the data
   pub scope_lies : 1 + 2 * size_width h.file ≤ length content
   scope_lies = omega (arith, sym (area_is h (header_length h) (size_width h.file) refl refl))
 
-  pub nak_is : (w x y : ℕ) → stop ≡ data_end h → w ≡ size_width h.file → x ≡ number_at content 1 (size_width h.file)
+  pub nak_is : (area stop w x y : ℕ) → area ≡ area_start h → stop ≡ data_end h → w ≡ size_width h.file → x ≡ number_at content 1 (size_width h.file)
       → y ≡ number_at content (1 + w) (size_width h.file)
       → record { header = h; start = x; end = y; area = area; stop = stop; count = (stop - area) / (2 * w) } ≡ nak_in h content
   unfolding nak_in
-  nak_is w x y pe pw px py = rw (px, py, pb, pe, pw)
+  nak_is area stop w x y pb pe pw px py = rw (px, py, pb, pe, pw)
 
 -- ---- what is tested behind the code
 

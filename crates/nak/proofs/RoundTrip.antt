@@ -1,5 +1,6 @@
 -- DEMAND 2 for NAKs: what is written reads back: the header handed back, scope and pairs. Once over the widths, with and without CRC.
 -- Assumes nothing.
+use Rattle.std.specs.Prelude.{Ok}
 use Prim.Native.Nat.{ℕ, zero, suc, ◌+◌, ◌-◌, ◌*◌, ◌/◌, ◌^◌, ◌≤◌, ◌<◌}
 use mathlib.Core.Path.{◌≡◌, refl, sym, ap, ap₂, subst, ◌∙◌}
 use mathlib.Core.Bool.{true}
@@ -26,7 +27,6 @@ use Rattle.header.proofs.Verifying.{pdu_sum, end_sum}
 use Rattle.header.proofs.Sizes.{size_low}
 use Rattle.header.proofs.Pdus.{memory_has}
 use Rattle.header.proofs.PdusBack.{reads_content, content_there, over_length}
-use Rattle.nak.specs.declared.NakResult.TheVariants.{Nak as Read}
 use Rattle.nak.specs.Nak.{nak_code, pair_size, area_start, nak_in}
 use Rattle.nak.specs.Reading.{reading_nak}
 use Rattle.nak.specs.Requests.{area_of, pairs_from, pairs_of}
@@ -37,7 +37,7 @@ use Rattle.nak.proofs.Walking.{within}
 use Rattle.nak.proofs.Tests.{scope_passed, scope_fits_lem}
 use Rattle.nak.proofs.Storing.{scope_length, data_length_lem, numbers_length}
 use Rattle.nak.proofs.Writing.{ToWrite, to_write}
-use Rattle.nak.proofs.Demands.{one_nak_result}
+use Rattle.fields.proofs.OneToOne.{one_answer}
 
 -- ---- the pairs, once over the width
 
@@ -197,4 +197,4 @@ code_reads_back file h start end numbers s w r ends lent e q =
     let m = begins_with file h start end numbers s w e in
     let b = written_reads_back file h start end (length s) numbers (drop (length N) s) w ends lent e in
     let n = read_as k start end (length numbers / 2) in
-    (one_nak_result r (Read n) (q ∙ ap (run reading_nak) m ∙ b.read), ap (λ (x : List ℕ). pairs_of k.file (area_of n x)) m ∙ b.pairs)
+    (one_answer _ r (Ok n) (q ∙ ap (run reading_nak) m ∙ b.read), ap (λ (x : List ℕ). pairs_of k.file (area_of n x)) m ∙ b.pairs)

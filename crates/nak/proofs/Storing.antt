@@ -1,16 +1,15 @@
 -- The stores of a NAK's data: code and scope, the numbers, and bytes that stand in their place already. Once for both widths.
 -- Assumes nothing.
-use Prim.Native.Nat.{ℕ, suc, ◌+◌, ◌-◌, ◌*◌, ◌/◌, ◌%◌, ◌^◌, ◌≤◌, ◌<◌}
-use mathlib.Core.Path.{◌≡◌, sym, ap, ap₂, ◌∙◌}
+use Prim.Native.Nat.{ℕ, ◌+◌, ◌-◌, ◌*◌, ◌/◌, ◌%◌, ◌^◌, ◌≤◌, ◌<◌}
+use mathlib.Core.Path.{◌≡◌, refl, sym, ap, ap₂, ◌∙◌}
 use mathlib.Core.Bool.{true}
-use mathlib.Core.List.{List, [], ◌∷◌, ◌++◌, append_assoc}
+use mathlib.Core.List.{List, [], ◌∷◌, ◌++◌, append_assoc, append-nil}
 use native.Mathlib.Nat.{zero-add, mul-le-mul_left}
-use native.Mathlib.Numerals.{add-one}
 use native.Mathlib.Omega.{arith}
 use lib.Arith.{digits_lt, digits_div, digits_mod}
 use lib.Dec.{lit<}
 use lib.ListN.{length, get_or, take, drop, length-append, length-drop, take-append-drop, drop_of_length-le}
-use lib.Seq.{sets, sets-eq, length-take-le, drop-cons, drop-drop}
+use lib.Seq.{sets, sets-eq, length-take-le, drop-drop}
 use Rattle.fields.specs.BigEndian.{be_bytes, be_put}
 use Rattle.fields.proofs.BigEndian.{be_length, be_beside, put_sets, put_behind, sets_append}
 use Rattle.header.specs.declared.PduHeader.{PduHeader}
@@ -49,18 +48,10 @@ data_length_lem file start end area = simp (length-append, scope_length)
 
 -- ---- the numbers
 
--- a turn of the loop over the numbers, and its end: what is left to do
-pub number_turn : (w at i v : ℕ) (l m ns : List ℕ) → w ≤ 8 → at + w * length ns ≤ length l → i < length ns → v ≡ get_or ns i 0 → v < 256 ^ w
-    → m ≡ be_put l (at + w * i) w v
-    → sets m (at + w * (i + 1)) (numbers_bytes w (drop (i + 1) ns)) ≡ sets l (at + w * i) (numbers_bytes w (drop i ns))
+pub numbers_length : (w : ℕ) (ns : List ℕ) → length (numbers_bytes w ns) ≡ w * length ns
 unfolding numbers_bytes
-number_turn w at i v l m ns small room h q f p =
-    let k : w * (i + 1) ≤ w * length ns = mul-le-mul_left w (omega arith) in
-    let e : at + w * (i + 1) ≡ at + w * i + length (be_bytes w (get_or ns i 0)) = omega (arith, be_length w (get_or ns i 0)) in
-    let p' : m ≡ sets l (at + w * i) (be_bytes w (get_or ns i 0)) = p
-    ∙ put_sets l (at + w * i) w v small (omega arith) f
-    ∙ ap (λ (x : ℕ). sets l (at + w * i) (be_bytes w x)) q in
-    rw (p', drop-cons ns i 0 h, sets_append, e, add-one)
+numbers_length w [] = omega arith
+numbers_length w (n ∷ ns) = simp (length-append, be_length, numbers_length w ns) (omega arith)
 
 -- two numbers whose halves are exchanged
 pub exchanged_pair : (n x y two v : ℕ) → x < n → y < n → two ≡ y * n + x → v ≡ two % n * n + two / n → (v ≡ x * n + y) × (v < n * n)
@@ -70,37 +61,80 @@ exchanged_pair n x y two v h k e p =
     let is : v ≡ x * n + y = p ∙ ap₂ (λ (a b : ℕ). a * n + b) low high in
     (is, rw is (digits_lt h k))
 
--- the same of two numbers, which are stored as one
-pub pair_turn : (w at i j k a b v : ℕ) (l m ns : List ℕ) → w + w ≤ 8 → at + w * length ns ≤ length l → suc i < length ns → j ≡ suc (suc i)
-    → k ≡ at + w * i → a ≡ get_or ns i 0 → b ≡ get_or ns (suc i) 0
-    → b < 256 ^ w → v ≡ a * 256 ^ w + b → v < 256 ^ (w + w) → m ≡ be_put l k (w + w) v
-    → sets m (at + w * j) (numbers_bytes w (drop j ns)) ≡ sets l (at + w * i) (numbers_bytes w (drop i ns))
+numbers_append : (w : ℕ) (xs ys : List ℕ) → numbers_bytes w (xs ++ ys) ≡ numbers_bytes w xs ++ numbers_bytes w ys
 unfolding numbers_bytes
-pair_turn w at i j k a b v l m ns small room h ej ek qa qb fb qv fv p =
-    let most : w * j ≤ w * length ns = mul-le-mul_left w (omega arith) in
-    let x = be_bytes w (get_or ns i 0) in
-    let y = be_bytes w (get_or ns (suc i) 0) in
-    let rest = numbers_bytes w (drop (suc (suc i)) ns) in
-    let both : be_bytes (w + w) v ≡ x ++ y = ap (be_bytes (w + w)) qv ∙ be_beside w w a b fb ∙ ap₂ (λ (c d : ℕ). be_bytes w c ++ be_bytes w d) qa qb in
-    let twice : w * j ≡ w * i + (w + w) = ap (λ (n : ℕ). w * n) ej ∙ omega arith in
-    let stored : m ≡ sets l (at + w * i) (x ++ y) = p ∙ put_sets l k (w + w) v small (omega arith) fv ∙ ap₂ (λ (n : ℕ) (b : List ℕ). sets l n b) ek both in
-    let e : at + w * j ≡ at + w * i + length (x ++ y) = simp (length-append, be_length) (omega arith) in
-    let d : drop i ns ≡ get_or ns i 0 ∷ get_or ns (suc i) 0 ∷ drop (suc (suc i)) ns = drop-cons ns i 0 (omega arith)
-    ∙ ap (λ (t : List ℕ). get_or ns i 0 ∷ t) (drop-cons ns (suc i) 0 h) in
-    ap (λ (n : ℕ). sets m (at + w * j) (numbers_bytes w (drop n ns))) ej
-    ∙ ap₂ (λ (b : List ℕ) (n : ℕ). sets b n rest) stored e
-    ∙ sym (sets_append (x ++ y) rest l (at + w * i))
-    ∙ ap (sets l (at + w * i)) (append_assoc x y rest)
-    ∙ ap (λ (t : List ℕ). sets l (at + w * i) (numbers_bytes w t)) (sym d)
+numbers_append w [] ys = refl
+numbers_append w (x ∷ xs) ys = ap (λ (t : List ℕ). be_bytes w x ++ t) (numbers_append w xs ys) ∙ sym (append_assoc (be_bytes w x) (numbers_bytes w xs) (numbers_bytes w ys))
 
-pub numbers_done : (w at i : ℕ) (l m ns : List ℕ) → length ns ≤ i → sets l (at + w * i) (numbers_bytes w (drop i ns)) ≡ m → l ≡ m
+numbers_two : (w : ℕ) (ns : List ℕ) → length ns ≡ 2 → numbers_bytes w ns ≡ be_bytes w (get_or ns 0 0) ++ be_bytes w (get_or ns 1 0)
 unfolding numbers_bytes
-numbers_done w at i l m ns e h = rw (drop_of_length-le ns e) at h
+numbers_two w [] e = absurd (omega arith)
+numbers_two w (a ∷ []) e = absurd (omega arith)
+numbers_two w (a ∷ b ∷ []) e = rw append-nil refl
+numbers_two w (a ∷ b ∷ c ∷ ns) e = absurd (omega arith)
 
-pub numbers_length : (w : ℕ) (ns : List ℕ) → length (numbers_bytes w ns) ≡ w * length ns
+-- all of a slice is written over
+all_set : (s xs : List ℕ) → length xs ≡ length s → sets s 0 xs ≡ xs
+all_set s xs e = sets-eq xs s 0 (omega arith) ∙ ap (λ (t : List ℕ). xs ++ t) (drop_of_length-le s {i = 0 + length xs} (omega arith)) ∙ append-nil xs
+
+-- a pair is stored as one number
+pub pair_as_one : (w v : ℕ) (s m ns : List ℕ) → w + w ≤ 8 → length s ≡ w + w → length ns ≡ 2 → get_or ns 1 0 < 256 ^ w → v ≡ get_or ns 0 0 * 256 ^ w + get_or ns 1 0
+    → v < 256 ^ (w + w) → m ≡ be_put s 0 (w + w) v → m ≡ numbers_bytes w ns
+pair_as_one w v s m ns small room two fb is fv p =
+    p
+    ∙ put_sets s 0 (w + w) v small (omega arith) fv
+    ∙ all_set s (be_bytes (w + w) v) (be_length (w + w) v ∙ sym room)
+    ∙ ap (be_bytes (w + w)) is
+    ∙ be_beside w w (get_or ns 0 0) (get_or ns 1 0) fb
+    ∙ sym (numbers_two w ns two)
+
+-- or one behind the other
+pub pair_as_two : (w : ℕ) (s m₁ m ns : List ℕ) → w ≤ 8 → length s ≡ w + w → length ns ≡ 2 → get_or ns 0 0 < 256 ^ w → get_or ns 1 0 < 256 ^ w
+    → m₁ ≡ be_put s 0 w (get_or ns 0 0) → m ≡ be_put m₁ w w (get_or ns 1 0) → m ≡ numbers_bytes w ns
+pair_as_two w s m₁ m ns small room two fa fb p q =
+    let a = get_or ns 0 0 in
+    let b = get_or ns 1 0 in
+    put_behind s (be_bytes w a) 0 w w b (zero-add (length (be_bytes w a)) ∙ be_length w a) small (omega arith) fb (p ∙ put_sets s 0 w a small (omega arith) fa) q
+    ∙ all_set s (be_bytes w a ++ be_bytes w b) (simp (length-append, be_length) (sym room))
+    ∙ sym (numbers_two w ns two)
+
+-- a pair's bytes, and that they are there
+pub pair_length : (w i : ℕ) (ns : List ℕ) → 2 * i + 2 ≤ length ns → length (numbers_bytes w (take 2 (drop (2 * i) ns))) ≡ 2 * w
+pair_length w i ns h =
+    let two : length (take 2 (drop (2 * i) ns)) ≡ 2 = length-take-le 2 (drop (2 * i) ns) (omega (arith, length-drop (2 * i) ns)) in
+    numbers_length w (take 2 (drop (2 * i) ns)) ∙ ap (λ (n : ℕ). w * n) two ∙ omega arith
+
+pub pair_there : (w u at i n room : ℕ) → u ≡ w → at + w * n ≤ room → i < n / 2 → at + 2 * u * i + 2 * u ≤ room
+pair_there w u at i n room e h l =
+    let k : w * (2 * (i + 1)) ≤ w * n = mul-le-mul_left w (omega arith) in
+    rw e (omega arith)
+
+-- a part that is written over whole
+pub part_set : (s p xs : List ℕ) (from to : ℕ) → to ≡ from + length xs → to ≤ length s → p ≡ xs
+    → take from s ++ (p ++ drop (to - from) (drop from s)) ≡ sets s from xs
+part_set s p xs from to e room is =
+    let n : from + (to - from) ≡ from + length xs = omega arith in
+    ap (λ (x : List ℕ). take from s ++ (x ++ drop (to - from) (drop from s))) is
+    ∙ ap (λ (d : List ℕ). take from s ++ (xs ++ d)) (drop-drop (to - from) from s ∙ ap (λ (k : ℕ). drop k s) n)
+    ∙ sym (append_assoc (take from s) xs (drop (from + length xs) s))
+    ∙ sym (sets-eq xs s from (omega arith))
+
+-- a turn of the loop over the pairs, and its end: what is left to do
+pub pairs_turn : (w pair at i : ℕ) (l m ns : List ℕ) → pair ≡ 2 * w → 2 * i + 2 ≤ length ns → m ≡ sets l (at + pair * i) (numbers_bytes w (take 2 (drop (2 * i) ns)))
+    → sets m (at + pair * (i + 1)) (numbers_bytes w (drop (2 * (i + 1)) ns)) ≡ sets l (at + pair * i) (numbers_bytes w (drop (2 * i) ns))
+pairs_turn w pair at i l m ns e h p =
+    let X = take 2 (drop (2 * i) ns) in
+    let Y = drop (2 * (i + 1)) ns in
+    let behind : drop 2 (drop (2 * i) ns) ≡ Y = drop-drop 2 (2 * i) ns ∙ ap (λ (n : ℕ). drop n ns) (omega arith) in
+    let all : drop (2 * i) ns ≡ X ++ Y = sym (take-append-drop 2 (drop (2 * i) ns)) ∙ ap (λ (t : List ℕ). X ++ t) behind in
+    let next : at + pair * (i + 1) ≡ at + pair * i + length (numbers_bytes w X) = omega (arith, pair_length w i ns h, e) in
+    ap₂ (λ (b : List ℕ) (n : ℕ). sets b n (numbers_bytes w Y)) p next
+    ∙ sym (sets_append (numbers_bytes w X) (numbers_bytes w Y) l (at + pair * i))
+    ∙ ap (sets l (at + pair * i)) (sym (numbers_append w X Y) ∙ ap (numbers_bytes w) (sym all))
+
+pub pairs_done : (w n i : ℕ) (l m ns : List ℕ) → length ns ≤ 2 * i → sets l n (numbers_bytes w (drop (2 * i) ns)) ≡ m → l ≡ m
 unfolding numbers_bytes
-numbers_length w [] = omega arith
-numbers_length w (n ∷ ns) = simp (length-append, be_length, numbers_length w ns) (omega arith)
+pairs_done w n i l m ns e h = rw (drop_of_length-le ns e) at h
 
 -- ---- what stands in its place already
 

@@ -2,7 +2,7 @@
 -- Assumes nothing.
 use Prim.Native.Nat.{ℕ, ◌+◌, ◌*◌, ◌/◌, ◌%◌, ◌^◌, ◌≤◌, ◌<◌}
 use mathlib.Core.Path.{◌≡◌, refl, sym}
-use mathlib.Core.Bool.{Bool, true, false}
+use mathlib.Core.Bool.{true, false}
 use mathlib.Core.List.{List, [], ◌∷◌, ◌++◌}
 use native.Mathlib.Nat.{div-add-mod'}
 use native.Mathlib.Omega.{arith}
@@ -23,17 +23,6 @@ use Rattle.nak.specs.Reserving.{finish_tests}
 -- ---- the scope
 
 module _ (file : LargeFileFlag) (start end : ℕ) where
-  pub scope_no : fits_size file start ≡ false → false ≡ scope_fits file start end
-  unfolding scope_fits
-  scope_no e = rw e
-
-  pub scope_as : (r : Bool) → fits_size file start ≡ true → r ≡ fits_size file end → r ≡ scope_fits file start end
-  unfolding scope_fits
-  scope_as r e q = rw (e, q)
-
-  pub scope_large : file ≡ Large → accepted tt ≡ all_of (scope_too_large file start end ∷ [])
-  scope_large p = rw p
-
   module _ (p : file ≡ Normal) where
     pub scope_refused : scope_fits file start end ≡ false → told (9 ∷ start ∷ end ∷ []) ≡ all_of (scope_too_large file start end ∷ [])
     scope_refused e = rw (told_is_refused 9 _ refl, p, rw p at e)

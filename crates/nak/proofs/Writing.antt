@@ -83,6 +83,14 @@ pub area_before : (file : LargeFileFlag) (h : PduHeader) (start end count room :
     → area_start w.header + size_width file * count ≡ data_end w.header
 area_before file h start end count room w z = omega (arith, z.whole, end_sum w.header)
 
+-- what its own tests said and its header, of the flag and the count that the code has
+pub own_as : (f file : LargeFileFlag) (h : PduHeader) (start end count n : ℕ) (o : Answer ℕ) → f ≡ file → n ≡ count
+    → o ≡ first_of (own_tests f start end count) (data_length f h.crc (count / 2)) → o ≡ first_of (own_tests file start end n) (data_length file h.crc (n / 2))
+own_as f file h start end count n o e q p = rw (q, ← e) p
+
+pub towards_as : (f file : LargeFileFlag) (h j : PduHeader) → f ≡ file → j ≡ towards_sender f h → j ≡ towards_sender file h
+towards_as f file h j e p = rw (← e) p
+
 -- ---- the needs of a writer: j is its header as the code has it, o what its own tests said, k the header that it begins with
 
 module _ (file : LargeFileFlag) (h : PduHeader) (start end : ℕ) (numbers s : List ℕ) (j : PduHeader) (pj : j ≡ towards_sender file h) (o : Answer ℕ)

@@ -1,24 +1,16 @@
 -- Comparing a buffer with a NAK to be written (document 01): 'the reader's refusals, then the writer's but 11; else yes exactly when all header fields (identifiers by number), d and scope equal those handed back and the request area is exactly the pairs'.
-use Rattle.std.specs.Prelude.{ℕ, Bool, true, false, ◌&&◌, List, [], ◌∷◌, eqb, leb, length, drop}
+use Rattle.std.specs.Prelude.{ℕ, Bool, ◌&&◌, List, [], ◌∷◌, eqb, leb, length, drop}
 use Rattle.fields.specs.BigEndian.{number_at}
-use Rattle.fields.specs.Answer.{Answer, accepted, told, and_then}
+use Rattle.fields.specs.Answer.{Answer, accepted, and_then}
 use Rattle.fields.specs.Staged.{run}
-use Rattle.fields.specs.Refusal.{paper}
 use Rattle.header.specs.declared.PduHeader.{PduHeader}
 use Rattle.header.specs.declared.flags.LargeFileFlag.{LargeFileFlag}
 use Rattle.header.specs.Comparing.{same_header}
 use Rattle.nak.specs.declared.Nak.{Nak}
-use Rattle.nak.specs.declared.compare.CompareResult.{CompareResult}
-use Rattle.nak.specs.declared.compare.CompareResult.TheVariants.{Equal, Different, Refused}
 use Rattle.header.specs.Size.{size_width}
 use Rattle.nak.specs.Reading.{reading_nak}
 use Rattle.nak.specs.Requests.{area_of}
 use Rattle.nak.specs.Writing.{judging_nak}
-
-abbrev pub compare_answer : CompareResult → Answer Bool
-compare_answer Equal = accepted true
-compare_answer Different = accepted false
-compare_answer (Refused r) = told (paper r)
 
 -- a NAK that was read has that header and that scope
 unfoldable pub same_nak : Nak → PduHeader → ℕ → ℕ → Bool

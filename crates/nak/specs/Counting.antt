@@ -1,19 +1,12 @@
 -- Most requests for a packet size (document 01, and document 02's C-08), and that the writer accepts so many and no more.
 use Rattle.std.specs.Prelude.{ℕ, ◌+◌, ◌-◌, ◌*◌, ◌/◌, ◌≤◌, ◌<◌, min, ◌≡◌, true, [], ◌∷◌, ◌++◌, ltb}
-use Rattle.fields.specs.Answer.{Answer, accepted, told, Test, when, first_of}
-use Rattle.fields.specs.Refusal.{paper}
+use Rattle.fields.specs.Answer.{Answer, accepted, Test, when, first_of}
 use Rattle.header.specs.declared.PduHeader.{PduHeader}
 use Rattle.header.specs.Header.{crc_length}
 use Rattle.header.specs.Pdu.{directive_tests, handed_back}
-use Rattle.nak.specs.declared.count.CountResult.{CountResult}
-use Rattle.nak.specs.declared.count.CountResult.TheVariants.{Count, Refused}
 use Rattle.header.specs.declared.pdu.PduWritten.{PduWritten}
 use Rattle.nak.specs.Nak.{pair_size, area_start}
 use Rattle.nak.specs.Writing.{most_pairs, filled, scope_fits, writing_nak}
-
-abbrev pub count_answer : CountResult → Answer ℕ
-count_answer (Count n) = accepted n
-count_answer (Refused r) = told (paper r)
 
 -- h + 1 + F, plus 2 with CRC: a NAK with no pair
 unfoldable pub least_packet : PduHeader → ℕ

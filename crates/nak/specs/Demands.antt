@@ -1,6 +1,7 @@
 -- What is proved of this layer, beside the demand that it meets.
-use Rattle.std.specs.Prelude.{ℕ, ◌+◌, ◌-◌, ◌*◌, ◌/◌, ◌^◌, ◌≤◌, ◌<◌, ◌≡◌, true, List, [], ◌∷◌, ◌++◌, map, length, get_or, take, drop}
-use Rattle.fields.specs.Answer.{accepted}
+use Rattle.std.specs.Prelude.{ℕ, ◌+◌, ◌-◌, ◌*◌, ◌/◌, ◌^◌, ◌≤◌, ◌<◌, ◌≡◌, true, List, [], ◌∷◌, ◌++◌, map, length, get_or, take, drop, Result, Ok, Err, None}
+use Rattle.fields.specs.declared.refusal.Refusal.{Refusal}
+use Rattle.fields.specs.Answer.{accepted, answer_of}
 use Rattle.fields.specs.Staged.{run}
 use Rattle.fields.specs.Demand3.{heard, Demand3, CodeDemand3}
 use Rattle.header.specs.declared.PduHeader.{PduHeader}
@@ -9,22 +10,15 @@ use Rattle.header.specs.declared.flags.LargeFileFlag.{LargeFileFlag}
 use Rattle.header.specs.Header.{data_end}
 use Rattle.header.specs.Demands.{SameFields}
 use Rattle.nak.specs.declared.Nak.{Nak}
-use Rattle.nak.specs.declared.NakResult.{NakResult}
-use Rattle.nak.specs.declared.NakResult.TheVariants.{Nak as Read, Refused}
 use Rattle.header.specs.declared.pdu.PduWritten.{PduWritten}
 use Rattle.nak.specs.declared.reserve.ReservedNak.{ReservedNak}
-use Rattle.nak.specs.declared.reserve.ReserveResult.{ReserveResult}
-use Rattle.nak.specs.declared.compare.CompareResult.{CompareResult}
-use Rattle.nak.specs.declared.count.CountResult.{CountResult}
-use Rattle.nak.specs.declared.requests.NextRequest.TheVariants.{End}
 use Rattle.header.specs.Size.{size_width}
 use Rattle.nak.specs.Nak.{pair_size, area_start}
-use Rattle.nak.specs.Reading.{nak_answer, reading_nak}
+use Rattle.nak.specs.Reading.{reading_nak}
 use Rattle.nak.specs.Requests.{area_of, pairs_of, next_request, walk}
 use Rattle.nak.specs.Writing.{numbers_bytes, nak_bytes, data_length, most_pairs, judging_nak, writing_nak, nak_memory}
-use Rattle.nak.specs.Reserving.{reserve_answer, reserving, finishing, finished_memory}
-use Rattle.nak.specs.Counting.{count_answer}
-use Rattle.nak.specs.Comparing.{compare_answer, comparing}
+use Rattle.nak.specs.Reserving.{reserving, finishing, finished_memory}
+use Rattle.nak.specs.Comparing.{comparing}
 use Rattle.nak.specs.Cases.{Given, gives, starred}
 
 -- ---- demand 2
@@ -50,7 +44,7 @@ WalkShowsPairs = (area : List ℕ) (file : LargeFileFlag) (rounds : ℕ) → len
 
 -- .. and then the end, for ever
 abbrev pub EndForEver : Type 0
-EndForEver = (area : List ℕ) (file : LargeFileFlag) (at more : ℕ) → next_request area file at ≡ End → next_request area file (at + more) ≡ End
+EndForEver = (area : List ℕ) (file : LargeFileFlag) (at more : ℕ) → next_request area file at ≡ None → next_request area file (at + more) ≡ None
 
 -- numbers, start and end by turns, as pairs
 abbrev pub by_turns : List ℕ → List (ℕ × ℕ)
@@ -88,9 +82,9 @@ WrittenReadsBack =
 -- the same of the code's own answer: what reading answers to the buffer that writing left, and the pairs there
 abbrev pub CodeReadsBack : Type 0
 CodeReadsBack =
-    (file : LargeFileFlag) (h : PduHeader) (start end : ℕ) (numbers s : List ℕ) (w : PduWritten) (r : NakResult) → Lent 8 (start ∷ end ∷ []) → Lent (size_width file) numbers
-    → writing_nak file h start end (length numbers) (length s) ≡ accepted w → nak_answer r ≡ run reading_nak (nak_memory file h start end numbers s)
-    → (r ≡ Read (read_as w.header start end (length numbers / 2))) × (pairs_of w.header.file (area_of (read_as w.header start end (length numbers / 2)) (nak_memory file h start end numbers s)) ≡ by_turns numbers)
+    (file : LargeFileFlag) (h : PduHeader) (start end : ℕ) (numbers s : List ℕ) (w : PduWritten) (r : Result Nak Refusal) → Lent 8 (start ∷ end ∷ []) → Lent (size_width file) numbers
+    → writing_nak file h start end (length numbers) (length s) ≡ accepted w → answer_of r ≡ run reading_nak (nak_memory file h start end numbers s)
+    → (r ≡ Ok (read_as w.header start end (length numbers / 2))) × (pairs_of w.header.file (area_of (read_as w.header start end (length numbers / 2)) (nak_memory file h start end numbers s)) ≡ by_turns numbers)
 
 -- a reserved NAK whose area was filled with the pairs' bytes and finished is the written NAK: the same answer, the same bytes
 pub record Written (h : PduHeader) (start end : ℕ) (numbers s : List ℕ) (r : ReservedNak) (w : PduWritten) : Type 0 where
@@ -124,19 +118,6 @@ pub record Equals (file : LargeFileFlag) (h : PduHeader) (start end : ℕ) (numb
 abbrev pub YesMeansEqual : Type 0
 YesMeansEqual = (file : LargeFileFlag) (h : PduHeader) (start end : ℕ) (numbers s : List ℕ) → comparing file h start end numbers s ≡ accepted true → Equals file h start end numbers s
 
--- each promise leaves one answer
-abbrev pub OneNakResult : Type 0
-OneNakResult = (a b : NakResult) → nak_answer a ≡ nak_answer b → a ≡ b
-
-abbrev pub OneReserveResult : Type 0
-OneReserveResult = (a b : ReserveResult) → reserve_answer a ≡ reserve_answer b → a ≡ b
-
-abbrev pub OneCountResult : Type 0
-OneCountResult = (a b : CountResult) → count_answer a ≡ count_answer b → a ≡ b
-
-abbrev pub OneCompareResult : Type 0
-OneCompareResult = (a b : CompareResult) → compare_answer a ≡ compare_answer b → a ≡ b
-
 -- ---- demand 3
 
 -- at most four refusals as short
@@ -149,4 +130,4 @@ FourAreHeard = heard (run reading_nak) (λ i. get_or (0x28 ∷ 0x00 ∷ 0x01 ∷
 
 -- the first three of its parts of the code's own answers
 abbrev pub NakCodeDemand3 : Type 0
-NakCodeDemand3 = CodeDemand3 (run reading_nak) nak_answer Refused
+NakCodeDemand3 = CodeDemand3 (run reading_nak) answer_of Err

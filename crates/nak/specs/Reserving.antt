@@ -1,21 +1,14 @@
 -- Reserving room for requests, and finishing the NAK around them (document 01): the answers, and the lent memory at exit.
 use Rattle.std.specs.Prelude.{ℕ, ◌-◌, List, [], ◌∷◌, take, drop}
-use Rattle.fields.specs.Answer.{Answer, accepted, told, and_then, Test}
-use Rattle.fields.specs.Refusal.{paper}
+use Rattle.fields.specs.Answer.{Answer, accepted, and_then, Test}
 use Rattle.header.specs.declared.PduHeader.{PduHeader}
 use Rattle.header.specs.declared.pdu.PduWritten.{PduWritten}
 use Rattle.header.specs.declared.flags.LargeFileFlag.{LargeFileFlag}
 use Rattle.header.specs.Header.{data_end}
 use Rattle.header.specs.Pdu.{writing_pdu, pdu_memory}
 use Rattle.nak.specs.declared.reserve.ReservedNak.{ReservedNak}
-use Rattle.nak.specs.declared.reserve.ReserveResult.{ReserveResult}
-use Rattle.nak.specs.declared.reserve.ReserveResult.TheVariants.{Reserved, Refused}
 use Rattle.nak.specs.Nak.{area_start}
 use Rattle.nak.specs.Writing.{nak_data, filled, scope_too_large, too_many}
-
-abbrev pub reserve_answer : ReserveResult → Answer ReservedNak
-reserve_answer (Reserved r) = accepted r
-reserve_answer (Refused r) = told (paper r)
 
 -- reserving and finishing keep the file flag; direction and length of n pairs are filled in
 abbrev pub keeping : PduHeader → ℕ → PduHeader

@@ -1,18 +1,12 @@
 // How many requests a NAK has at most in a packet of a given size (the Rust's `calculate_max_segment_requests`).
 ghost use Rattle.std.specs.Prelude.{◌≡◌, ◌≤◌};
-ghost use Rattle.nak.specs.Counting.{count_answer, least_packet, most_requests};
+ghost use Rattle.fields.specs.Answer.{answer_of};
+ghost use Rattle.nak.specs.Counting.{least_packet, most_requests};
 
 use crate::{area_start, write};
 use fields::Refusal;
 use header::size::size_width;
-use header::{CRC_LEN, Judged, PduHeader};
-
-// A count of requests, or why there is none.
-#[derive(Clone, Copy)]
-pub enum CountResult {
-    Count(usize),
-    Refused(Refusal),
-}
+use header::{CRC_LEN, Flag, PduHeader};
 
 // A NAK with no request.
 fn least_packet(header: PduHeader) -> usize
@@ -22,25 +16,17 @@ fn least_packet(header: PduHeader) -> usize
     area_start(header) + CRC_LEN * (crc.bit() as usize)
 }
 
-pub fn calculate_max_segment_requests(size: usize, header: PduHeader) -> CountResult
-    ensures { count_answer result ≡ most_requests header size }
+pub fn calculate_max_segment_requests(size: usize, header: PduHeader) -> Result<usize, Refusal>
+    ensures { answer_of result ≡ most_requests header size }
 {
-    let judged = header.judged_directive();
-    match judged {
-        Judged::Refused(refusal) => CountResult::Refused(refusal),
-        Judged::Passed => {
-            let least = least_packet(header);
-            if size < least {
-                return CountResult::Refused(Refusal::TooSmallForPduHeader);
-            }
-            let file = header.file;
-            let by_size = (size - least) / (2 * size_width(file));
-            // The Rust stops here, and its count may be one that no writer takes.
-            let most = write::most_pairs(file);
-            if most < by_size {
-                return CountResult::Count(most);
-            }
-            CountResult::Count(by_size)
-        }
+    header.judged_directive()?;
+    let least = least_packet(header);
+    if size < least {
+        return Err(Refusal::TooSmallForPduHeader);
     }
+    let file = header.file;
+    let by_size = (size - least) / (2 * size_width(file));
+    // The Rust stops here, and its count may be one that no writer takes.
+    let most = write::most_pairs(file);
+    Ok(by_size.min(most))
 }

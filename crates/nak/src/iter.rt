@@ -1,13 +1,14 @@
 // The thin reader of segment requests (the Rust's `SegmentRequestIter`): the request area, lent, and a cursor in it.
 // Nothing is tested or computed here: the work is `request_area`'s and `RequestCursor`'s.
 ghost use Rattle.std.specs.Prelude.{◌≡◌};
-ghost use Rattle.nak.specs.Requests.{area_of, next_request};
+ghost use Rattle.std.specs.Iterator.{YieldsFirst, item_count};
+ghost use Rattle.nak.specs.Requests.{area_of, next_request, pairs_left};
 
 use crate::Nak;
 use crate::requests::{NextRequest, RequestCursor};
 use header::LargeFileFlag;
 
-#[derive(Clone, Copy)]
+#[derive(Clone, Copy, Debug, PartialEq, Eq)]
 pub struct SegmentRequestIter<'a> {
     // current_idx
     pub cursor: RequestCursor,
@@ -30,21 +31,22 @@ impl Nak {
     }
 
     // What stands at a cursor in the request area. Its parameters hold no reference in a struct, so its callers are proved like any others.
-    pub fn next_request(self, buf: &[u8], cursor: RequestCursor) -> NextRequest
+    pub fn next_request(self, buf: &[u8], cursor: RequestCursor) -> Option<NextRequest>
         ensures { result ≡ next_request (area_of self buf.now) self.header.file cursor.at }
     {
-        self.segment_request_iter(buf).moved(cursor).next()
+        self.segment_request_iter(buf).moved(cursor).peek()
     }
 }
 
 impl<'a> SegmentRequestIter<'a> {
-    pub fn next(self) -> NextRequest
+    // What stands at its position, which stays.
+    pub fn peek(self) -> Option<NextRequest>
         ensures { result ≡ next_request self.entry.area.now self.entry.file self.entry.cursor.at }
     {
         self.cursor.next(self.area, self.file)
     }
 
-    // The same bytes at another position: the one that `next` hands out behind a pair.
+    // The same bytes at another position: the one that `peek` hands out behind a pair.
     pub fn moved(self, cursor: RequestCursor) -> SegmentRequestIter<'a>
         ensures { (result.cursor ≡ cursor) × (result.area ≡ self.entry.area) × (result.file ≡ self.entry.file) }
     {
@@ -53,5 +55,20 @@ impl<'a> SegmentRequestIter<'a> {
             area: self.area,
             file: self.file,
         }
+    }
+}
+
+// The pairs, first to last, each as start and end.
+impl<'a> Iterator for SegmentRequestIter<'a> {
+    type Item = (u64, u64);
+
+    ghost next_gives = { YieldsFirst (λ s. pairs_left s.area.now s.file s.cursor.at) };
+
+    ghost remaining = { item_count (λ s. pairs_left s.area.now s.file s.cursor.at) };
+
+    fn next(&mut self) -> Option<(u64, u64)> {
+        let request = self.cursor.next(self.area, self.file)?;
+        self.cursor = request.next;
+        Some((request.start, request.end))
     }
 }

@@ -12,13 +12,14 @@ use header::{LargeFileFlag, PduHeader, size};
 pub mod compare;
 pub mod count;
 pub mod iter;
+mod offset;
 pub mod read;
 pub mod requests;
 pub mod reserve;
 pub mod write;
 
 // A NAK that was read: its header, its scope, and where its requests lie in the bytes that it was read from.
-#[derive(Clone, Copy)]
+#[derive(Clone, Copy, Debug, PartialEq, Eq)]
 pub struct Nak {
     pub header: PduHeader,
     // start_of_scope
@@ -30,13 +31,6 @@ pub struct Nak {
     pub stop: usize,
     // num_segment_reqs: the whole pairs of the area.
     pub count: usize,
-}
-
-// A NAK, or why there is none.
-#[derive(Clone, Copy)]
-pub enum NakResult {
-    Nak(Nak),
-    Refused(Refusal),
 }
 
 // The code of a NAK.

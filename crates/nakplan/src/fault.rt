@@ -1,5 +1,6 @@
 // What is wrong with a line, in words.
-use crate::STDOUT_FILENO;
+use std::alloc::{AllocError, AllocFailed};
+use std::fmt;
 
 #[derive(Clone, Copy)]
 pub enum Fault {
@@ -18,33 +19,53 @@ pub enum Fault {
     NoHeader,
     NoPacket,
     NoScope,
+    NoMemory,
 }
 
-fn say(text: &[u8]) {
-    io::write_all(STDOUT_FILENO, text);
+impl fmt::Display for Fault {
+    fn fmt<W: fmt::Write>(&self, f: &mut fmt::Formatter<W>) -> fmt::Result {
+        f.write_str(match self {
+            Fault::TooLong => "has more than 511 bytes",
+            Fault::NoSuchWord => "begins with a word that is not known",
+            Fault::NotANumber => "has a word that is no number of 64 bits",
+            Fault::OtherCount => "has too few or too many numbers",
+            Fault::NotAHeader => "has a flag above 1, a length above 65535 or a width above 255",
+            Fault::SaidBefore => "says what was said before",
+            Fault::NoNakBefore => "has a request with no nak before it",
+            Fault::OtherEnd => "has other counts than there are naks and requests",
+            Fault::BehindEnd => "stands behind the end",
+            Fault::TooManyRanges => "has one received range more than 8190",
+            Fault::TooManyRequests => "has one request more than 8190",
+            Fault::TooManyNaks => "has one nak more than 1024",
+            Fault::NoHeader => "is the end, and there was no header",
+            Fault::NoPacket => "is the end, and there was no packet",
+            Fault::NoScope => "is the end, and there was no scope",
+            Fault::NoMemory => "needs more memory than there is",
+        })
+    }
+}
+
+impl From<AllocError> for Fault {
+    fn from(_error: AllocError) -> Fault {
+        Fault::NoMemory
+    }
+}
+
+impl<T: Drop> From<AllocFailed<T>> for Fault {
+    fn from(_error: AllocFailed<T>) -> Fault {
+        Fault::NoMemory
+    }
 }
 
 // A line's number, from 1, and what is wrong with it. What is not there at the end is missed in the line behind the last.
-pub fn print(line: u64, fault: Fault) {
-    say(b"line ");
-    io::print_decimal(STDOUT_FILENO, line);
-    match fault {
-        Fault::TooLong => say(b" has more than 511 bytes\n"),
-        Fault::NoSuchWord => say(b" begins with a word that is not known\n"),
-        Fault::NotANumber => say(b" has a word that is no number of 64 bits\n"),
-        Fault::OtherCount => say(b" has too few or too many numbers\n"),
-        Fault::NotAHeader => say(
-            b" has a flag above 1, a length above 65535 or a width above 255\n",
-        ),
-        Fault::SaidBefore => say(b" says what was said before\n"),
-        Fault::NoNakBefore => say(b" has a request with no nak before it\n"),
-        Fault::OtherEnd => say(b" has other counts than there are naks and requests\n"),
-        Fault::BehindEnd => say(b" stands behind the end\n"),
-        Fault::TooManyRanges => say(b" has one received range more than 8190\n"),
-        Fault::TooManyRequests => say(b" has one request more than 8190\n"),
-        Fault::TooManyNaks => say(b" has one nak more than 1024\n"),
-        Fault::NoHeader => say(b" is the end, and there was no header\n"),
-        Fault::NoPacket => say(b" is the end, and there was no packet\n"),
-        Fault::NoScope => say(b" is the end, and there was no scope\n"),
+#[derive(Clone, Copy)]
+pub struct Wrong {
+    pub line: u64,
+    pub fault: Fault,
+}
+
+impl fmt::Display for Wrong {
+    fn fmt<W: fmt::Write>(&self, f: &mut fmt::Formatter<W>) -> fmt::Result {
+        write!(f, "line {} {}", self.line, self.fault)
     }
 }

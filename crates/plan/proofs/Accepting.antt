@@ -1,12 +1,12 @@
--- Whether a plan is accepted, at each exit of the check: the code asks for the gaps where the document asks for apart and exact.
+-- Whether a plan is accepted, as the check finds it out: the code asks for the gaps where the document asks for apart and exact.
 -- Assumes nothing.
 use Prim.Native.Nat.{ℕ, ◌%◌, ◌≤◌}
-use mathlib.Core.Path.{◌≡◌, refl, sym, ap, ◌∙◌}
+use mathlib.Core.Path.{◌≡◌, refl, ap}
 use mathlib.Core.Bool.{Bool, true, false, ◌&&◌}
 use mathlib.Core.List.{List}
 use lib.Dec.{eqb}
 use lib.ListN.{length}
-use borrow.Author.Tests.{eq-eqb, ne_eqb}
+use borrow.Author.Tests.{eq-eqb}
 use Rattle.header.proofs.Comparing.{both_true}
 use Rattle.ranges.specs.Pairs.{twos}
 use Rattle.ranges.specs.Merging.{largest}
@@ -28,8 +28,15 @@ regroup true false s x j g e = bottom s
 regroup true true false x j g e = refl
 regroup true true true x j g e = ap (λ (c : Bool). c && j) e
 
+-- tests one behind the other, and as they are grouped in the code
+pub chain : (a b c d e : Bool) → (a && (b && (c && (d && e)))) ≡ ((((a && b) && c) && d) && e)
+chain false b c d e = refl
+chain true false c d e = refl
+chain true true false d e = refl
+chain true true true d e = refl
+
 module _ (most : ℕ) (received : List ℕ) (start end : ℕ) (requests naks : List ℕ) (a : apart (twos received) ≡ true) (small : end ≤ largest) (bounded : Numbers64 requests) where
-  accept_is : accepts_numbers most received start end requests naks
+  pub accept_is : accepts_numbers most received start end requests naks
       ≡
       (eqb (length naks % 3) 0 &&
       (each_fits most (threes naks) &&
@@ -41,25 +48,6 @@ module _ (most : ℕ) (received : List ℕ) (start end : ℕ) (requests naks : L
       (exactly (twos received) start end (twos requests)) (scopes_join start end (threes naks))
       (same_pairs (twos requests) (gaps start end (twos received)))
       (apart_exactly (twos received) start end (apart_says (twos received) a) small requests bounded))
-
-  pub odd_threes : (length naks % 3 ≡ 0 → ⊥) → false ≡ accepts_numbers most received start end requests naks
-  odd_threes n = sym (accept_is ∙ rw (ne_eqb _ _ n))
-
-  module _ (w : length naks % 3 ≡ 0) where
-    pub too_many_lem : each_fits most (threes naks) ≡ false → false ≡ accepts_numbers most received start end requests naks
-    too_many_lem n = sym (accept_is ∙ rw (eq-eqb _ _ w, n))
-
-    module _ (f : each_fits most (threes naks) ≡ true) where
-      pub outside : each_within (threes naks) (twos requests) ≡ false → false ≡ accepts_numbers most received start end requests naks
-      outside n = sym (accept_is ∙ rw (eq-eqb _ _ w, f, n))
-
-      module _ (i : each_within (threes naks) (twos requests) ≡ true) where
-        pub not_gaps : same_pairs (twos requests) (gaps start end (twos received)) ≡ false → false ≡ accepts_numbers most received start end requests naks
-        not_gaps n = sym (accept_is ∙ rw (eq-eqb _ _ w, f, i, n))
-
-        pub as_joined : (r : Bool) → same_pairs (twos requests) (gaps start end (twos received)) ≡ true → r ≡ scopes_join start end (threes naks)
-            → r ≡ accepts_numbers most received start end requests naks
-        as_joined r n j = j ∙ sym (accept_is ∙ rw (eq-eqb _ _ w, f, i, n))
 
 -- ---- the clauses of an accepted plan, apart
 

@@ -1,15 +1,17 @@
 -- The planner: how many NAKs, what they are, and its answer and stores at each exit.
 -- Assumes nothing.
-use Prim.Native.Nat.{ℕ, zero, suc, ◌+◌, ◌-◌, ◌*◌, ◌/◌, ◌≤◌, ◌<◌}
+use Prim.Native.Nat.{ℕ, zero, suc, ◌+◌, ◌-◌, ◌*◌, ◌/◌, ◌%◌, ◌≤◌, ◌<◌, min}
 use mathlib.Core.Path.{◌≡◌, refl, sym, ap, ap₂, ◌∙◌}
 use mathlib.Core.Bool.{true, false, ◌&&◌, not}
 use mathlib.Core.List.{List, [], ◌∷◌, ◌++◌}
 use mathlib.Core.Logic.{⊎_elim}
 use native.Mathlib.Omega.{arith}
-use native.Mathlib.Nat.{div-zero, div-eq_of_lt, div-mul-le_self, div-le_self, add-div_right}
+use native.Mathlib.Nat.{div-zero, div-eq_of_lt, div-mul-le_self, div-eq_of_lt-le, add-div_right, add-mul}
+use Rattle.std.specs.Int.{div_ceil}
+use Rattle.std.proofs.lemmas.Grind.{div_ceil_times}
 use lib.Dec.{eqb}
-use lib.ListN.{length, drop, length-drop}
-use lib.Seq.{sets, sets-eq, drop-append-le}
+use lib.ListN.{length, take, drop}
+use lib.Seq.{sets, sets-eq, take-append_seam}
 use borrow.Author.Tests.{lt-ltb, le-ltb, eq-eqb, ne_eqb}
 use Rattle.fields.specs.Answer.{Answer, accepted, told}
 use Rattle.fields.proofs.Judging.{told_is_refused, refused_then, accepted_then, told_leaves, sets_leaves}
@@ -19,8 +21,8 @@ use Rattle.ranges.proofs.Tests.{eq?}
 use Rattle.plan.specs.Missing.{missing_ranges}
 use Rattle.plan.specs.Plans.{PlannedNak, Plan, pair_numbers, nak_numbers}
 use Rattle.plan.specs.Checking.{judging_plan}
-use Rattle.plan.specs.Planning.{naks_for, first_end, end_of, dealt, plan_of, plan_with, planning, counted, requests_after, naks_after}
-use Rattle.plan.proofs.Storing.{enough_more}
+use Rattle.plan.specs.declared.planner.Planned.{Planned}
+use Rattle.plan.specs.Planning.{naks_for, end_of, dealt, plan_of, plan_with, planning, counted, requests_after, naks_after}
 
 -- ---- how many NAKs
 
@@ -35,8 +37,13 @@ naks_some ranges most n p =
     let e : ranges + most - 1 ≡ ranges - 1 + most = omega (arith, n) in
     sym (ap (λ (x : ℕ). x / most) e ∙ add-div_right (ranges - 1) p)
 
-pub naks_small : (ranges most : ℕ) → (ranges - 1) / most ≤ ranges - 1
-naks_small ranges most = div-le_self (ranges - 1) most
+pub rounded_up : (ranges most : ℕ) → 0 < most → div_ceil ranges most ≡ naks_for ranges most
+rounded_up ranges most p =
+    let b = div_ceil_times ranges most p in
+    let q : ℕ = ranges / most + min 1 (ranges % most) in
+    let low : q * most ≤ ranges + most - 1 = omega (arith, b.1) in
+    let high : ranges + most - 1 < (q + 1) * most = omega (arith, b.0, add-mul q 1 most) in
+    sym (div-eq_of_lt-le most low high)
 
 -- the requests are enough for all NAKs but the last
 pub naks_enough : (ranges most : ℕ) → (0 < ranges → 0 < most) → (naks_for ranges most - 1) * most ≤ ranges
@@ -64,12 +71,6 @@ fits_some most ranges e l =
     (λ z. absurd (let w : true ≡ false = sym (rw (ne_eqb ranges 0 (λ y. let b : ⊥ = omega arith in b), eq-eqb most 0 z)) ∙ e in let q : ◌≡◌ {A = ℕ} 0 1 = cc in let b : ⊥ = omega arith in b))
     (λ z. omega (arith, z)) (eq? most 0)
 
-pub none_zero : (most ranges : ℕ) → ranges ≡ 0 → false ≡ (not (eqb ranges 0) && eqb most 0)
-none_zero most ranges e = rw (eq-eqb ranges 0 e)
-
-pub none_some : (most ranges : ℕ) → (ranges ≡ 0 → ⊥) → eqb most 0 ≡ (not (eqb ranges 0) && eqb most 0)
-none_some most ranges e = rw (ne_eqb ranges 0 e)
-
 -- ---- what they are
 
 pub dealt_count : (n most left at end : ℕ) (ps : List (ℕ × ℕ)) → length (dealt n most left at end ps) ≡ n
@@ -77,33 +78,6 @@ unfolding dealt
 dealt_count zero most left at end ps = refl
 dealt_count (suc zero) most left at end ps = refl
 dealt_count (suc (suc n)) most left at end ps = ap suc (dealt_count (suc n) most (left - most) (end_of most ps) end (drop most ps))
-
-first_front : (ps qs : List (ℕ × ℕ)) → 0 < length ps → first_end (ps ++ qs) ≡ first_end ps
-first_front [] qs l = absurd (let b : ⊥ = omega arith in b)
-first_front (p ∷ ps) qs l = refl
-
-end_front : (k : ℕ) (ps qs : List (ℕ × ℕ)) → 0 < k → k ≤ length ps → end_of k (ps ++ qs) ≡ end_of k ps
-end_front k ps qs p l =
-    ap first_end (drop-append-le (k - 1) ps qs (let z : k - 1 ≤ length ps = omega arith in z))
-    ∙ first_front (drop (k - 1) ps) qs (let z : 0 < length (drop (k - 1) ps) = omega (arith, length-drop (k - 1) ps) in z)
-
--- only the requests dealt out matter
-pub dealt_front : (n most left at end : ℕ) (ps qs : List (ℕ × ℕ)) → (1 < n → 0 < most) → (n - 1) * most ≤ length ps
-    → dealt n most left at end (ps ++ qs) ≡ dealt n most left at end ps
-unfolding dealt
-dealt_front zero most left at end ps qs h l = refl
-dealt_front (suc zero) most left at end ps qs h l = refl
-dealt_front (suc (suc n)) most left at end ps qs h l =
-    let p : 0 < most = h (omega arith) in
-    let m = enough_more (suc (suc n)) most (length ps) (omega arith) l in
-    let z : suc (suc n) - 1 - 1 ≡ suc n - 1 = omega arith in
-    let e = end_front most ps qs p m.0 in
-    let k : (suc n - 1) * most ≤ length (drop most ps) = omega (arith, length-drop most ps, ap (λ (x : ℕ). x * most) z, m.1) in
-    ap (λ (x : ℕ). record { start = at; end = x; count = most } ∷ dealt (suc n) most (left - most) x end (drop most (ps ++ qs))) e
-    ∙ ap (λ (x : List (ℕ × ℕ)). record { start = at; end = end_of most ps; count = most } ∷ dealt (suc n) most (left - most) (end_of most ps) end x)
-    (drop-append-le most ps qs m.0)
-    ∙ ap (λ (x : List PlannedNak). record { start = at; end = end_of most ps; count = most } ∷ x)
-    (dealt_front (suc n) most (left - most) (end_of most ps) end (drop most ps) qs (λ y. p) k)
 
 -- ---- numbers
 
@@ -119,25 +93,35 @@ pub twos_front : (ps : List (ℕ × ℕ)) (s : List ℕ) → twos (pair_numbers 
 twos_front [] s = refl
 twos_front (p ∷ ps) s = ap (λ (x : List (ℕ × ℕ)). p ∷ x) (twos_front ps s)
 
+take_all : (n : ℕ) (ps qs : List (ℕ × ℕ)) → n ≡ length ps → take n (ps ++ qs) ≡ ps
+take_all n ps qs e = ap (λ (x : ℕ). take x (ps ++ qs)) e ∙ take-append_seam ps qs
+
 -- ---- what is told, and the lent numbers at exit
 
+abbrev told_of : ℕ → ℕ → Answer Planned
+told_of r n = accepted (record { requests = r; naks = n })
+
 module _ (s t : List ℕ) where
-  abbrev pub Leaves : Answer Plan → Answer (ℕ × ℕ) → List ℕ → List ℕ → Type 0
-  Leaves o a s' t' = (a ≡ counted o) × ((s' ≡ requests_after o s) × (t' ≡ naks_after o t))
+  abbrev pub Leaves : Answer Plan → Answer Planned → List ℕ → List ℕ → Type 0
+  Leaves o a s' t' = record { answered : a ≡ counted o; requested : s' ≡ requests_after o s; dealt : t' ≡ naks_after o t }
 
   pub leaves_refused : (o : Answer Plan) (ns : List ℕ) → told ns ≡ o → Leaves o (told ns) s t
-  leaves_refused o ns e = (
-    refused_then o (λ p. accepted (length p.requests, length p.naks)) ns e,
-    (told_leaves ns o (λ p. pair_numbers p.requests) s e, told_leaves ns o (λ p. nak_numbers p.naks) t e),
-  )
+  leaves_refused o ns e =
+      record {
+        answered = refused_then o (λ p. accepted (record { requests = length p.requests; naks = length p.naks })) ns e;
+        requested = told_leaves ns o (λ p. pair_numbers p.requests) s e;
+        dealt = told_leaves ns o (λ p. nak_numbers p.naks) t e;
+      }
 
   pub leaves_made : (o : Answer Plan) (p : Plan) (s' t' : List ℕ) → accepted p ≡ o → length (pair_numbers p.requests) ≤ length s
       → length (nak_numbers p.naks) ≤ length t
-      → s' ≡ sets s 0 (pair_numbers p.requests) → t' ≡ sets t 0 (nak_numbers p.naks) → Leaves o (accepted (length p.requests, length p.naks)) s' t'
-  leaves_made o p s' t' e l m q r = (
-    accepted_then o (λ p. accepted (length p.requests, length p.naks)) p e,
-    (q ∙ sets_leaves o (λ p. pair_numbers p.requests) s p e l, r ∙ sets_leaves o (λ p. nak_numbers p.naks) t p e m),
-  )
+      → s' ≡ sets s 0 (pair_numbers p.requests) → t' ≡ sets t 0 (nak_numbers p.naks) → Leaves o (accepted (record { requests = length p.requests; naks = length p.naks })) s' t'
+  leaves_made o p s' t' e l m q r =
+      record {
+        answered = accepted_then o (λ p. accepted (record { requests = length p.requests; naks = length p.naks })) p e;
+        requested = q ∙ sets_leaves o (λ p. pair_numbers p.requests) s p e l;
+        dealt = r ∙ sets_leaves o (λ p. nak_numbers p.naks) t p e m;
+      }
 
 -- ---- the exits
 
@@ -176,24 +160,24 @@ module _ (most start end : ℕ) (rs : List (ℕ × ℕ)) (s t : List ℕ) (n : �
         parted_count : length parted ≡ naks_for (length rs) most
         parted_count = dealt_count (naks_for (length rs) most) most (length rs) start end rs
 
-        -- the NAKs are dealt over the requests that were just stored
-        naks_are : (s' : List ℕ) → s' ≡ sets s 0 (pair_numbers rs) → dealt p most n start end (twos s') ≡ parted
-        naks_are s' q =
-            let h : (0 < n → 0 < most) = fits_some most n f in
+        -- the requests that were just stored
+        stored : (s' : List ℕ) → s' ≡ sets s 0 (pair_numbers rs) → take n (twos s') ≡ rs
+        stored s' q =
             let z : 0 + length (pair_numbers rs) ≤ length s = omega (arith, requests_fit) in
             let front : s' ≡ pair_numbers rs ++ drop (0 + length (pair_numbers rs)) s = q ∙ sets-eq (pair_numbers rs) s 0 z in
-            ap (λ (x : List (ℕ × ℕ)). dealt p most n start end x) (ap twos front ∙ twos_front rs (drop (0 + length (pair_numbers rs)) s))
-            ∙ dealt_front p most n start end rs (twos (drop (0 + length (pair_numbers rs)) s)) (λ l. naks_positive n most h (rw parts at l))
-            (let z : (p - 1) * most ≤ length rs = rw (parts, ← is) (naks_enough n most h) in z)
-            ∙ ap₂ (λ (x y : ℕ). dealt x most y start end rs) parts_is is
+            ap (λ (x : List ℕ). take n (twos x)) front
+            ∙ ap (take n) (twos_front rs (drop (0 + length (pair_numbers rs)) s))
+            ∙ take_all n rs (twos (drop (0 + length (pair_numbers rs)) s)) is
 
-        pub all_stored : (s' t' : List ℕ) → s' ≡ sets s 0 (pair_numbers rs) → t' ≡ sets t 0 (nak_numbers (dealt p most n start end (twos s')))
-            → Leaves s t made (accepted (n, p)) s' t'
+        pub all_stored : (s' t' : List ℕ) (asked : List (ℕ × ℕ)) → s' ≡ sets s 0 (pair_numbers rs) → asked ≡ take n (twos s')
+            → t' ≡ sets t 0 (nak_numbers (dealt p most (length asked) start end asked))
+            → Leaves s t made (accepted (record { requests = n; naks = p })) s' t'
         unfolding plan_of
-        all_stored s' t' q r =
+        all_stored s' t' asked q a r =
+            let same : dealt p most (length asked) start end asked ≡ parted = ap₂ (λ (x : ℕ) (y : List (ℕ × ℕ)). dealt x most (length y) start end y) parts_is (a ∙ stored s' q) in
             let m = leaves_made s t made (plan_of most start end rs) s' t' plan_made requests_fit
-            (omega (arith, nak_count parted, parted_count, parts_is)) q (r ∙ ap (λ (x : List PlannedNak). sets t 0 (nak_numbers x)) (naks_are s' q)) in
-            (ap₂ (λ (x y : ℕ). accepted (x, y)) is (parts_is ∙ sym parted_count) ∙ m.0, m.1)
+            (omega (arith, nak_count parted, parted_count, parts_is)) q (r ∙ ap (λ (x : List PlannedNak). sets t 0 (nak_numbers x)) same) in
+            record { answered = ap₂ told_of is (parts_is ∙ sym parted_count) ∙ m.answered; requested = m.requested; dealt = m.dealt }
 
 -- ---- above the judgement
 
@@ -208,7 +192,7 @@ module _ (h : PduHeader) (size : ℕ) (received : List ℕ) (start end : ℕ) (s
       leaves_refused s t (planning h size received start end (length s) (length t)) ns
       (refused_then (judging_plan h size received start end (length s)) with_most ns e)
 
-  pub plan_judged : (most : ℕ) (a : Answer (ℕ × ℕ)) (s' t' : List ℕ) → accepted most ≡ judging_plan h size received start end (length s)
+  pub plan_judged : (most : ℕ) (a : Answer Planned) (s' t' : List ℕ) → accepted most ≡ judging_plan h size received start end (length s)
       → Leaves s t (plan_with most start end (missing_ranges (twos received) start end) (length s) (length t)) a s' t'
       → Leaves s t (planning h size received start end (length s) (length t)) a s' t'
   unfolding planning

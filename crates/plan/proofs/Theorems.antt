@@ -1,5 +1,6 @@
 -- The statements of specs/Theorems, proved: an accepted plan passed every clause, and the planner's passes them all.
 -- Assumes nothing.
+use Rattle.std.specs.Prelude.{Result, Ok, Err}
 use Prim.Native.Nat.{ℕ, zero, suc, ◌*◌, ◌%◌, ◌^◌, ◌≤◌, ◌<◌}
 use mathlib.Core.Path.{◌≡◌, refl, sym, ap, ◌∙◌}
 use mathlib.Core.Bool.{Bool, true, false, ◌&&◌, not, and-false}
@@ -9,9 +10,9 @@ use lib.Dec.{leb, eqb}
 use lib.ListN.{length, take, drop}
 use lib.Seq.{take_at}
 use borrow.Author.Tests.{ne_eqb, leb-true, eqb-true}
-use Rattle.fields.specs.Answer.{accepted}
+use Rattle.fields.specs.declared.refusal.Refusal.{Refusal}
+use Rattle.fields.specs.Answer.{accepted, answer_of}
 use Rattle.fields.proofs.Judging.{same_accepted, passed, went}
-use Rattle.fields.proofs.OneToOne.{answer_back, told_back, one_to_one}
 use Rattle.header.specs.declared.PduHeader.{PduHeader}
 use Rattle.header.specs.declared.flags.LargeFileFlag.{LargeFileFlag}
 use Rattle.header.specs.Size.{size_width}
@@ -22,18 +23,14 @@ use Rattle.nak.proofs.Counting.{most_requests_fit}
 use Rattle.nak.proofs.Tests.{scope_fits_lem, scope_passed, scope_below}
 use Rattle.ranges.specs.Pairs.{twos, Apart, ApartBehind}
 use Rattle.ranges.specs.Merging.{largest}
-use Rattle.plan.specs.declared.checker.Checked.{Checked}
-use Rattle.plan.specs.declared.checker.Checked.TheVariants.{Verdict, Refused}
-use Rattle.plan.specs.declared.planner.Planned.{Planned}
-use Rattle.plan.specs.declared.planner.Planned.TheVariants.{Plan as Stored, Refused as NoPlan}
 use Rattle.plan.specs.Missing.{missing, every_byte, missing_ranges}
 use Rattle.plan.specs.Plans.{PlannedNak, pair_numbers, nak_numbers, threes, each_fits, all_within, each_within, exactly, join_from, scopes_join, accepts}
-use Rattle.plan.specs.Checking.{check_answer, judging_plan, checking_plan}
-use Rattle.plan.specs.Planning.{naks_for, dealt, plan_of, none_fits, no_room, plan_with, planning, plan_answer}
-use Rattle.plan.specs.Theorems.{NoNak, AcceptedExact, SameRequests, OnEach, FitWidth, Written, AcceptedWritten, OurPlan, Planner, StoredAccepted, OneChecked, OnePlanned}
+use Rattle.plan.specs.Checking.{judging_plan, checking_plan}
+use Rattle.plan.specs.Planning.{naks_for, dealt, plan_of, none_fits, no_room, plan_with, planning}
+use Rattle.plan.specs.Theorems.{NoNak, AcceptedExact, SameRequests, OnEach, FitWidth, Written, AcceptedWritten, OurPlan, Planner, StoredAccepted}
 use Rattle.plan.specs.Gaps.{gaps}
 use Rattle.plan.proofs.Apart.{apart_says}
-use Rattle.plan.proofs.Numbers.{pairs_back}
+use Rattle.plan.proofs.Arrays.{pairs_back}
 use Rattle.plan.proofs.Exact.{gaps_exactly, exact_gaps, gaps_missing}
 use Rattle.plan.proofs.Judging.{Good, good, good_again, check_made, judgement}
 use Rattle.plan.proofs.Accepting.{Clauses, numbers_clauses, clauses_numbers}
@@ -235,22 +232,3 @@ stored_accepted h size received start end s t p e =
     let r = take_at (pair_numbers p.requests) (drop (length (pair_numbers p.requests)) s) (2 * length p.requests) (pair_count p.requests) in
     let n = take_at (nak_numbers p.naks) (drop (length (nak_numbers p.naks)) t) (3 * length p.naks) (nak_count p.naks) in
     rw (r, n) (planner h size received start end (length s) (length t) p e).is_accepted
-
--- ---- one answer
-
-checked_back : (r : Checked) → answer_back Verdict Refused (check_answer r) ≡ r
-checked_back (Verdict v) = refl
-checked_back (Refused r) = told_back Verdict Refused r
-
-pub one_checked : OneChecked
-one_checked = one_to_one check_answer (answer_back Verdict Refused) checked_back
-
-abbrev stored : ℕ × ℕ → Planned
-stored c = Stored c.0 c.1
-
-planned_back : (r : Planned) → answer_back stored NoPlan (plan_answer r) ≡ r
-planned_back (Stored requests naks) = refl
-planned_back (NoPlan r) = told_back stored NoPlan r
-
-pub one_planned : OnePlanned
-one_planned = one_to_one plan_answer (answer_back stored NoPlan) planned_back

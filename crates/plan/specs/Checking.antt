@@ -7,14 +7,8 @@ use Rattle.header.specs.declared.flags.LargeFileFlag.{LargeFileFlag}
 use Rattle.nak.specs.Writing.{odd_count, scope_too_large}
 use Rattle.nak.specs.Counting.{most_requests}
 use Rattle.ranges.specs.Pairs.{twos}
-use Rattle.plan.specs.declared.checker.Checked.{Checked}
-use Rattle.plan.specs.declared.checker.Checked.TheVariants.{Verdict, Refused}
 use Rattle.plan.specs.Missing.{apart}
 use Rattle.plan.specs.Plans.{accepts_numbers}
-
-abbrev pub check_answer : Checked → Answer Bool
-check_answer (Verdict v) = accepted v
-check_answer (Refused r) = told (paper r)
 
 -- 23: 'received ranges or scope out of order'
 abbrev pub out_of_order : List (ℕ × ℕ) → ℕ → ℕ → Test

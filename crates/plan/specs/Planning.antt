@@ -5,7 +5,6 @@ use Rattle.fields.specs.Refusal.{paper}
 use Rattle.header.specs.declared.PduHeader.{PduHeader}
 use Rattle.ranges.specs.Pairs.{twos}
 use Rattle.plan.specs.declared.planner.Planned.{Planned}
-use Rattle.plan.specs.declared.planner.Planned.TheVariants.{Plan as Stored, Refused}
 use Rattle.plan.specs.Missing.{missing_ranges}
 use Rattle.plan.specs.Plans.{PlannedNak, Plan, pair_numbers, nak_numbers}
 use Rattle.plan.specs.Checking.{judging_plan}
@@ -57,12 +56,8 @@ planning h size received start end requests naks =
 -- ---- what is told and stored
 
 -- how many requests and NAKs there are
-abbrev pub plan_answer : Planned → Answer (ℕ × ℕ)
-plan_answer (Stored requests naks) = accepted (requests, naks)
-plan_answer (Refused r) = told (paper r)
-
-abbrev pub counted : Answer Plan → Answer (ℕ × ℕ)
-counted o = and_then o (λ p. accepted (length p.requests, length p.naks))
+abbrev pub counted : Answer Plan → Answer Planned
+counted o = and_then o (λ p. accepted (record { requests = length p.requests; naks = length p.naks }))
 
 -- the lent numbers at exit: the plan's in front, the rest as it was; a refusal changes none
 abbrev pub requests_after : Answer Plan → List ℕ → List ℕ

@@ -1,6 +1,7 @@
 -- What is proved of check and planner together, and of their answers.
-use Rattle.std.specs.Prelude.{ℕ, ◌*◌, ◌^◌, ◌≤◌, ◌<◌, ◌≡◌, true, ◌&&◌, not, List, [], ◌∷◌, eqb, length, get_or, take, drop}
-use Rattle.fields.specs.Answer.{accepted}
+use Rattle.std.specs.Prelude.{ℕ, ◌*◌, ◌^◌, ◌≤◌, ◌<◌, ◌≡◌, true, ◌&&◌, not, List, [], ◌∷◌, eqb, length, get_or, take, drop, Result}
+use Rattle.fields.specs.declared.refusal.Refusal.{Refusal}
+use Rattle.fields.specs.Answer.{accepted, answer_of}
 use Rattle.header.specs.declared.PduHeader.{PduHeader}
 use Rattle.header.specs.declared.flags.LargeFileFlag.{LargeFileFlag}
 use Rattle.header.specs.Size.{size_width}
@@ -8,12 +9,11 @@ use Rattle.nak.specs.Writing.{writing_nak}
 use Rattle.nak.specs.Counting.{most_requests, of_pairs}
 use Rattle.ranges.specs.Pairs.{twos}
 use Rattle.ranges.specs.Merging.{largest}
-use Rattle.plan.specs.declared.checker.Checked.{Checked}
 use Rattle.plan.specs.declared.planner.Planned.{Planned}
 use Rattle.plan.specs.Missing.{missing, every_byte, missing_ranges}
 use Rattle.plan.specs.Plans.{PlannedNak, Plan, pair_numbers, nak_numbers, threes, accepts}
-use Rattle.plan.specs.Checking.{check_answer, checking_plan}
-use Rattle.plan.specs.Planning.{naks_for, planning, plan_answer, requests_after, naks_after}
+use Rattle.plan.specs.Checking.{checking_plan}
+use Rattle.plan.specs.Planning.{naks_for, planning, requests_after, naks_after}
 
 -- ---- of any plan
 
@@ -86,9 +86,3 @@ StoredAccepted =
     → checking_plan h size received start end (take (2 * length p.requests) (requests_after (accepted p) s)) (take (3 * length p.naks) (naks_after (accepted p) t)) ≡ accepted true
 
 -- ---- 'How much each promise says': the answers leave one value
-
-abbrev pub OneChecked : Type 0
-OneChecked = (a b : Checked) → check_answer a ≡ check_answer b → a ≡ b
-
-abbrev pub OnePlanned : Type 0
-OnePlanned = (a b : Planned) → plan_answer a ≡ plan_answer b → a ≡ b

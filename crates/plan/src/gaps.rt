@@ -1,136 +1,82 @@
-// The gaps between received ranges, which are the missing ranges of a scope: a cursor by value.
-ghost use Rattle.std.specs.Prelude.{◌≡◌, [], ◌∷◌, ◌+◌, ◌-◌, ◌*◌, ◌/◌, ◌≤◌, ◌<◌, leb, length, drop, if◌then◌else◌};
+// The missing ranges of a scope, as the gaps between the received ranges.
+ghost use Rattle.std.specs.Prelude.{◌≡◌, ◌*◌, ◌^◌, ◌≤◌, ◌<◌, length};
+ghost use Rattle.std.specs.Iterator.{YieldsFirst, item_count};
 ghost use Rattle.std.proofs.lemmas.List.Edits.{sets};
 ghost use Rattle.ranges.specs.Pairs.{twos};
 ghost use Rattle.plan.specs.Plans.{pair_numbers};
-ghost use Rattle.plan.specs.Gaps.{gaps, gap_then, same_pairs};
+ghost use Rattle.plan.specs.Gaps.{pairs, gaps, same_pairs};
 
-// A gap, empty where there is no more; and from where to look for the next: the byte, and the number among those of the received ranges.
+// A scope, from its first byte to the first byte behind it, and the ranges of it that were received, start and end by turns.
 #[derive(Clone, Copy)]
-pub struct Gap {
-    pub from: u64,
-    pub to: u64,
-    pub at: u64,
-    pub next: usize,
+pub(crate) struct Scope<'a> {
+    pub(crate) received: &'a [u64],
+    pub(crate) start: u64,
+    pub(crate) end: u64,
 }
 
-fn lesser(a: u64, b: u64) -> u64
-    ensures { result ≡ (if leb a b then a else b) }
-{
-    if a <= b {
-        return a;
-    }
-    b
-}
-
-fn greater(a: u64, b: u64) -> u64
-    ensures { result ≡ (if leb a b then b else a) }
-{
-    if a <= b {
-        return b;
-    }
-    a
-}
-
-// The first gap from the byte `start` on, before `stop`, with the received ranges from number `first` on.
-pub(crate) fn next_gap(received: &[u64], first: usize, start: u64, stop: u64) -> Gap
-    requires { first ≤ length received.now }
-    ensures { (gaps start stop (twos (drop first received.now)) ≡ gap_then result.from result.to (gaps result.at stop (twos (drop result.next received.now)))) × (result.next ≤ length received.now) × (result.from < result.to → length received.now - result.next + (stop - result.at) < length received.now - first + (stop - start)) }
-{
-    let mut i = first;
-    let mut at = start;
-    while 1 < received.len() - i {
-        let to = lesser(stop, received[i]);
-        let behind = greater(at, received[i + 1]);
-        let next = i + 2;
-        if at < to {
-            return Gap {
-                from: at,
-                to,
-                at: behind,
-                next,
-            };
+impl<'a> Scope<'a> {
+    pub(crate) fn gaps(self) -> Gaps<'a>
+        ensures { let s = self.entry in gaps result.at result.stop (pairs result.received.now) ≡ gaps s.start s.end (twos s.received.now) }
+    {
+        let (received, _) = self.received.as_chunks();
+        Gaps {
+            received,
+            at: self.start,
+            stop: self.end,
         }
-        at = behind;
-        i = next;
     }
-    Gap {
-        from: at,
-        to: stop,
-        at: stop,
-        next: i,
+}
+
+// The gaps from the byte `at` on, before `stop`, between the ranges that are left.
+#[derive(Clone, Copy)]
+pub(crate) struct Gaps<'a> {
+    received: &'a [[u64; 2]],
+    at: u64,
+    stop: u64,
+    ghost few: { length received.now < 2 ^ 63 },
+}
+
+impl<'a> Iterator for Gaps<'a> {
+    type Item = (u64, u64);
+
+    ghost next_gives = { YieldsFirst (λ s. gaps s.at s.stop (pairs s.received.now)) };
+
+    ghost remaining = { item_count (λ s. gaps s.at s.stop (pairs s.received.now)) };
+
+    fn next(&mut self) -> Option<(u64, u64)> {
+        while let Some(([start, end], rest)) = self.received.split_first() {
+            let from = self.at;
+            let to = self.stop.min(*start);
+            self.at = from.max(*end);
+            self.received = rest;
+            if from < to {
+                return Some((from, to));
+            }
+        }
+        let from = self.at;
+        self.at = self.stop;
+        if from < self.stop {
+            return Some((from, self.stop));
+        }
+        None
     }
 }
 
 // Whether the requests are the gaps, one by one.
-pub(crate) fn are_gaps(received: &[u64], start: u64, stop: u64, requests: &[u64]) -> bool
-    ensures { result ≡ same_pairs (twos requests.now) (gaps start stop (twos received.now)) }
+pub(crate) fn are_gaps(requests: &[[u64; 2]], missing: Gaps) -> bool
+    ensures { result ≡ same_pairs (pairs requests.now) (gaps missing.entry.at missing.entry.stop (pairs missing.entry.received.now)) }
 {
-    let mut k = 0;
-    let mut i = 0;
-    let mut at = start;
-    loop {
-        let gap = next_gap(received, i, at, stop);
-        if gap.to <= gap.from {
-            return requests.len() - k < 2;
-        }
-        if requests.len() - k < 2 {
-            return false;
-        }
-        if requests[k] != gap.from {
-            return false;
-        }
-        if requests[k + 1] != gap.to {
-            return false;
-        }
-        k += 2;
-        i = gap.next;
-        at = gap.at;
-    }
-}
-
-// How many gaps there are.
-pub(crate) fn count_gaps(received: &[u64], start: u64, stop: u64) -> usize
-    ensures { (result ≡ length (gaps start stop (twos received.now))) × (result ≤ length received.now / 2 + 1) }
-{
-    let mut n = 0;
-    let mut i = 0;
-    let mut at = start;
-    loop {
-        let gap = next_gap(received, i, at, stop);
-        if gap.to <= gap.from {
-            return n;
-        }
-        n += 1;
-        i = gap.next;
-        at = gap.at;
-    }
-}
-
-fn put_pair(out: &mut [u64], at: usize, from: u64, to: u64)
-    requires { at + 2 ≤ length out.old }
-    ensures { out.new ≡ sets out.old at (from ∷ to ∷ []) }
-{
-    out[at] = from;
-    out[at + 1] = to;
+    requests.iter().map(|[from, to]| (*from, *to)).eq(missing)
 }
 
 // The gaps as numbers, start and end by turns.
-pub(crate) fn store_gaps(received: &[u64], start: u64, stop: u64, out: &mut [u64])
-    requires { 2 * length (gaps start stop (twos received.now)) ≤ length out.old }
-    ensures { out.new ≡ sets out.old 0 (pair_numbers (gaps start stop (twos received.now))) }
+// Kept: pairs by index. The proof of `iter_mut().zip` over `as_chunks_mut` did not close: nothing is said of what its slice ends as.
+pub(crate) fn store_gaps(missing: Gaps, out: &mut [u64])
+    requires { 2 * length (gaps missing.at missing.stop (pairs missing.received.now)) ≤ length out.old }
+    ensures { out.new ≡ sets out.old 0 (pair_numbers (gaps missing.entry.at missing.entry.stop (pairs missing.entry.received.now))) }
 {
-    let mut k = 0;
-    let mut i = 0;
-    let mut at = start;
-    loop {
-        let gap = next_gap(received, i, at, stop);
-        if gap.to <= gap.from {
-            return;
-        }
-        put_pair(out, k, gap.from, gap.to);
-        k += 2;
-        i = gap.next;
-        at = gap.at;
+    for (k, (from, to)) in missing.enumerate() {
+        out[2 * k] = from;
+        out[2 * k + 1] = to;
     }
 }

@@ -12,28 +12,18 @@ use Rattle.fields.specs.Refusal.{paper}
 use Rattle.fields.specs.Staged.{run}
 use Rattle.fields.proofs.BigEndian.{bytes_take}
 use Rattle.fields.proofs.Judging.{Passed, passed, Went, went, same_accepted, told_no, accepted_leaves}
-use Rattle.fields.proofs.OneToOne.{answer_back, told_back, one_to_one}
 use Rattle.nak.specs.declared.Nak.{Nak}
 use Rattle.nak.specs.Reading.{reading_nak}
 use Rattle.nak.specs.Requests.{area_of}
 use Rattle.nak.proofs.Demands.{accepted_shows}
 use Rattle.ranges.specs.declared.differ.Differences.{Differences}
-use Rattle.ranges.specs.declared.differ.DifferResult.{DifferResult}
-use Rattle.ranges.specs.declared.differ.DifferResult.TheVariants.{Found, Refused}
 use Rattle.ranges.specs.Runs.{Run}
 use Rattle.ranges.specs.Laying.{flat}
 use Rattle.ranges.specs.Transaction.{same_transaction}
-use Rattle.ranges.specs.Differing.{differences, Compared, compared, pair_out_of_order, transactions_differ, no_room, comparing_pairs, requests_in, comparing, counted, threes, differ_answer, differing, differ_memory}
-use Rattle.ranges.specs.Demands.{DifferIn, FoundTells, RefusedLeaves, OneDifferResult}
+use Rattle.ranges.specs.Differing.{differences, Compared, compared, pair_out_of_order, transactions_differ, no_room, comparing_pairs, requests_in, comparing, counted, threes, differing, differ_memory}
+use Rattle.ranges.specs.Demands.{DifferIn, FoundTells, RefusedLeaves}
 use Rattle.ranges.proofs.Laying.{length_flat}
 use Rattle.ranges.proofs.Differences.{area_fits, differences_differ}
-
-back : (r : DifferResult) → answer_back Found Refused (differ_answer r) ≡ r
-back (Found d) = refl
-back (Refused r) = told_back Found Refused r
-
-pub one_differ_result : OneDifferResult
-one_differ_result = one_to_one differ_answer (answer_back Found Refused) back
 
 -- ---- what was accepted
 

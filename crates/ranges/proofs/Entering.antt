@@ -8,7 +8,7 @@ use native.Mathlib.Omega.{arith}
 use lib.Dec.{eqb}
 use lib.ListN.{length, replicate}
 use borrow.Author.Tests.{lt-ltb, le-ltb, eq-eqb, ne_eqb}
-use Rattle.std.specs.Prelude.{if◌then◌else◌}
+use Rattle.std.specs.Prelude.{Option, Result, Ok, Err, if◌then◌else◌}
 use Rattle.fields.specs.BigEndian.{number_at}
 use Rattle.fields.specs.Answer.{Answer, accepted, short, refused, told, and_then, first_of}
 use Rattle.fields.specs.Staged.{run}
@@ -18,17 +18,17 @@ use Rattle.nak.specs.Reading.{reading_nak}
 use Rattle.nak.specs.Requests.{area_of, pairs_of}
 use Rattle.tlv.specs.declared.Form.TheVariants.{LongTlv}
 use Rattle.tlv.specs.declared.Field.{Field}
-use Rattle.tlv.specs.declared.read.FieldResult.{FieldResult}
-use Rattle.tlv.specs.declared.read.FieldResult.TheVariants.{Field as Whole, Cut}
+use Rattle.tlv.specs.declared.Cut.{Cut}
 use Rattle.tlv.specs.Reading.{field_in, value_of}
 use Rattle.tlv.proofs.Reading.{is_field}
 use Rattle.ranges.specs.declared.merge.Rule.{Rule}
 use Rattle.ranges.specs.declared.merge.Rule.TheVariants.{Either, Without}
+use Rattle.ranges.specs.declared.order.Asked.{Asked}
 use Rattle.ranges.specs.declared.owed.FirstNak.{FirstNak}
 use Rattle.ranges.specs.Pairs.{asks, spans, in_or_not}
 use Rattle.ranges.specs.Merging.{largest, label_of, labelling, merged}
 use Rattle.ranges.specs.Order.{others, disorder}
-use Rattle.ranges.specs.Within.{laid}
+use Rattle.ranges.specs.Within.{pairs_in, AsksOrWrong, laid}
 use Rattle.ranges.specs.Owing.{Entry, resent, ranges_of, State, most, first_after, differs, differs_from, in_order, after, too_many, judging}
 use Rattle.ranges.specs.Memory.{state_size, ranges_in, first_in, state_in, is_state}
 use Rattle.ranges.specs.Log.{heard_of, resent_of, contents_of, entry_in, reading_entry, entry_size, entering, left_by, entry_taken, entry_memory}
@@ -55,7 +55,7 @@ refused_told n ms o z e = told_is_refused n ms z ∙ e
 
 -- ---- 27
 
-module _ (rule : Rule) (f : FirstNak) (qs : List (ℕ × ℕ)) (m : List ℕ) (n : ℕ) (e : n ≡ length (merged rule (ranges_in m) qs)) where
+module _ (rule : Rule) (f : Option FirstNak) (qs : List (ℕ × ℕ)) (m : List ℕ) (n : ℕ) (e : n ≡ length (merged rule (ranges_in m) qs)) where
   many_is : most < n → refused (27 ∷ []) ≡ owing_with rule f qs m
   unfolding owing_with
   many_is h =
@@ -115,11 +115,11 @@ module _ (s : State) (at : ℕ) (e : Entry) where
   unfolding judging
   in_place h k = rw (h, k)
 
-owing_is : (rule : Rule) (f : FirstNak) (qs : List (ℕ × ℕ)) (m : List ℕ) (t : State) → spans (merged rule (ranges_in m) qs) ≡ t.ranges → f ≡ t.first
+owing_is : (rule : Rule) (f : Option FirstNak) (qs : List (ℕ × ℕ)) (m : List ℕ) (t : State) → spans (merged rule (ranges_in m) qs) ≡ t.ranges → f ≡ t.first
     → owing_with rule f qs m ≡ first_of (too_many t.ranges ∷ []) t
 unfolding owing_with
 owing_is rule f qs m t p q =
-    ap₂ (λ (x : List (ℕ × ℕ)) (y : FirstNak). first_of (too_many x ∷ []) (record { ranges = x; first = y })) p q
+    ap₂ (λ (x : List (ℕ × ℕ)) (y : Option FirstNak). first_of (too_many x ∷ []) (record { ranges = x; first = y })) p q
 
 -- ---- a NAK
 
@@ -147,36 +147,35 @@ module _ (at : ℕ) (c m : List ℕ) where
     unfolding heard_of state_in
     differs_is = refl
 
-    -- the request area, and the number of its first pair out of order
-    module _ (a : List ℕ) (w : ℕ) (ea : a ≡ area_of n c) (p : w ≡ disorder (pairs_of n.header.file a)) where
-      disorder_is : w ≡ disorder pairs
-      disorder_is = p ∙ ap (λ (x : List ℕ). disorder (pairs_of n.header.file x)) ea
-
-      pub heard_wrong : (w ≡ 0 → ⊥) → Taken (told (18 ∷ at ∷ [])) m (heard_in at c m) m
-      heard_wrong z =
+    -- the pairs of the request area, and whether they rise
+    module _ (ps : List (ℕ × ℕ)) (ep : ps ≡ pairs) where
+      pub heard_wrong : (w : ℕ) → AsksOrWrong (Err w) ps → Taken (told (18 ∷ at ∷ [])) m (heard_in at c m) m
+      heard_wrong w z =
           refused_entry (18 ∷ at ∷ []) (heard_in at c m) m
           (refused_told 18 (at ∷ []) (heard_in at c m) refl
-          (out_of_order_lem (state_in m) at (heard_of n c) (order_is ∙ ne_eqb (disorder pairs) 0 (λ k. z (disorder_is ∙ k))) ∙ as_heard))
+          (out_of_order_lem (state_in m) at (heard_of n c) (order_is ∙ ne_eqb (disorder pairs) 0 (rw ep at z.1)) ∙ as_heard))
 
-      module _ (z : w ≡ 0) (f : FirstNak) (d : Bool) (ef : f ≡ first_in m) (ed : d ≡ differs f n.header.source.0 n.header.sequence.0.value) where
+      module _ (x : Asked) (z : AsksOrWrong (Ok x) ps) (f : Option FirstNak) (d : Bool) (ef : f ≡ first_in m) (ed : d ≡ differs f n.header.source.0 n.header.sequence.0.value) where
         risen : in_order (heard_of n c) ≡ true
-        risen = order_is ∙ eq-eqb (disorder pairs) 0 (sym disorder_is ∙ z)
+        risen = order_is ∙ eq-eqb (disorder pairs) 0 (rw ep at z.2)
 
         differs_now : differs_from (state_in m).first (heard_of n c) ≡ d
-        differs_now = differs_is ∙ sym (ed ∙ ap (λ (x : FirstNak). differs x n.header.source.0 n.header.sequence.0.value) ef)
+        differs_now = differs_is ∙ sym (ed ∙ ap (λ (x : Option FirstNak). differs x n.header.source.0 n.header.sequence.0.value) ef)
 
         pub heard_differs : d ≡ true → Taken (told (19 ∷ [])) m (heard_in at c m) m
         heard_differs y =
             refused_entry (19 ∷ []) (heard_in at c m) m
             (refused_told 19 [] (heard_in at c m) refl (other_transaction (state_in m) at (heard_of n c) risen (differs_now ∙ y) ∙ as_heard))
 
-        module _ (y : d ≡ false) (g : FirstNak) (eg : g ≡ first_after f n.header.source.0 n.header.sequence.0.value) (qs : List (ℕ × ℕ)) (eq : qs ≡ others (pairs_of n.header.file a)) where
+        module _ (y : d ≡ false) (g : Option FirstNak) (eg : g ≡ first_after f n.header.source.0 n.header.sequence.0.value) where
+          abbrev qs : List (ℕ × ℕ)
+          qs = pairs_in x.others
+
           after_is : (spans (merged Either (ranges_in m) qs) ≡ (after (state_in m) (heard_of n c)).ranges) × (g ≡ (after (state_in m) (heard_of n c)).first)
           unfolding after heard_of state_in
           after_is = (
-            ap (λ (x : List (ℕ × ℕ)). spans (merged Either (ranges_in m) x)) (eq ∙ ap (λ (x : List ℕ). others (pairs_of n.header.file x)) ea)
-                ∙ merged_heard (ranges_in m) (others pairs),
-            eg ∙ ap (λ (x : FirstNak). first_after x n.header.source.0 n.header.sequence.0.value) ef,
+            ap (λ (x : List (ℕ × ℕ)). spans (merged Either (ranges_in m) x)) (z.1 ∙ ap others ep) ∙ merged_heard (ranges_in m) (others pairs),
+            eg ∙ ap (λ (x : Option FirstNak). first_after x n.header.source.0 n.header.sequence.0.value) ef,
           )
 
           owing_heard : owing_with Either g qs m ≡ heard_in at c m
@@ -204,7 +203,7 @@ module _ (at : ℕ) (c m : List ℕ) (from to : ℕ) (ef : from ≡ number_at c 
       refused_entry (18 ∷ at ∷ []) (resent_in at c m) m
       (refused_told 18 (at ∷ []) (resent_in at c m) refl (out_of_order_lem (state_in m) at (resent (from, to)) (le-ltb from to h) ∙ resent_is))
 
-  module _ (h : from < to) (f : FirstNak) (e : f ≡ first_in m) where
+  module _ (h : from < to) (f : Option FirstNak) (e : f ≡ first_in m) where
     resent_after : (spans (merged Without (ranges_in m) ((from, to) ∷ [])) ≡ (after (state_in m) (resent (from, to))).ranges) × (f ≡ (after (state_in m) (resent (from, to))).first)
     unfolding after state_in
     resent_after = (merged_resent (ranges_in m) ((from, to) ∷ []), e)
@@ -276,17 +275,17 @@ module _ (at : ℕ) (s m : List ℕ) where
   no_state e = refused_here 23 [] refl (not_a_state e)
 
   module _ (ok : is_state m ≡ true) where
-    cut_is : (place : ℕ) → Cut place ≡ field_in LongTlv s 0 → refused (26 ∷ at ∷ []) ≡ entering at s m
+    cut_is : (cut : Cut) → Err cut ≡ field_in LongTlv s 0 → refused (26 ∷ at ∷ []) ≡ entering at s m
     unfolding entering reading_entry
-    cut_is place e = rw ok (ap (λ (x : FieldResult). and_then (entry_in at s x) (judging (state_in m) at)) e)
+    cut_is cut e = rw ok (ap (λ (x : Result Field Cut). and_then (entry_in at s x) (judging (state_in m) at)) e)
 
-    pub entry_cut : (place : ℕ) → Cut place ≡ field_in LongTlv s 0 → Entered (told (26 ∷ at ∷ [])) m at s m
-    entry_cut place e = refused_here 26 (at ∷ []) refl (cut_is place e)
+    pub entry_cut : (cut : Cut) → Err cut ≡ field_in LongTlv s 0 → Entered (told (26 ∷ at ∷ [])) m at s m
+    entry_cut cut e = refused_here 26 (at ∷ []) refl (cut_is cut e)
 
-    module _ (f : Field) (e : Whole f ≡ field_in LongTlv s 0) where
+    module _ (f : Field) (e : Ok f ≡ field_in LongTlv s 0) where
       pub entering_is : contents_taken at f.tag (value_of f s) m ≡ entering at s m
       unfolding entering reading_entry contents_taken
-      entering_is = rw ok (ap (λ (x : FieldResult). and_then (entry_in at s x) (judging (state_in m) at)) e)
+      entering_is = rw ok (ap (λ (x : Result Field Cut). and_then (entry_in at s x) (judging (state_in m) at)) e)
 
       size_is : f.stop ≡ entry_size s
       size_is = sym (ap (λ (x : Field). x.stop) (is_field LongTlv s 0 f (sym e)).1)

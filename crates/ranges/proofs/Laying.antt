@@ -47,10 +47,6 @@ wide_positive false = lit< tt
 pub place_fits : (n size i : ℕ) → i < n / size → size * i + size ≤ n
 place_fits n size i h = omega (arith, div-add-mod' n size, mul-le-mul_right size h)
 
-pub three_fit : (labelled : Bool) (n size i : ℕ) → labelled ≡ true → size ≡ wide labelled → i < n / size → size * i + 3 ≤ n
-three_fit true n size i t e h = omega (arith, place_fits n size i h)
-three_fit false n size i t e h = absurd (let z : ◌≡◌ {A = ℕ} 0 1 = cc in let b : ⊥ = omega arith in b)
-
 module _ (s : List ℕ) (i from to l size : ℕ) where
   pub place_three : (labelled : Bool) → labelled ≡ true → size ≡ wide labelled → i < length s / size
       → set (set (set s (size * i) from) (size * i + 1) to) (size * i + 2) l ≡ placed labelled s i (range from to l)

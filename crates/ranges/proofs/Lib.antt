@@ -7,12 +7,10 @@ pub mod Laying
 pub mod Merging
 pub mod Spans
 pub mod Ordering
-pub mod Transactions
 pub mod Differing
 pub mod Differences
 pub mod Demands
 pub mod Room
-pub mod Owing
 pub mod Memory
 pub mod Entering
 pub mod Running

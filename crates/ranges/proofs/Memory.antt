@@ -10,9 +10,8 @@ use lib.Dec.{leb, ltb, eqb}
 use lib.ListN.{length, get_or, take, drop, replicate, length-append, length-replicate, replicate-append-replicate, drop_of_length-le}
 use lib.Seq.{sets-eq, drop-cons, get_or-take, take_at, set_at, get_or-append-add, length-take-le}
 use borrow.Author.Tests.{le-leb, lt-leb, lt-ltb, le-ltb, leb-true, ltb-true}
-use Rattle.std.specs.Prelude.{if◌then◌else◌}
+use Rattle.std.specs.Prelude.{Option, Some, None, if◌then◌else◌}
 use Rattle.ranges.specs.declared.owed.FirstNak.{FirstNak}
-use Rattle.ranges.specs.declared.owed.FirstNak.TheVariants.{Nak as First, Nothing}
 use Rattle.ranges.specs.Runs.{Run, range}
 use Rattle.ranges.specs.Pairs.{Rising, twos, spans}
 use Rattle.ranges.specs.Laying.{flat}
@@ -142,18 +141,18 @@ laid_zeros rs h =
     ∙ sym (append_assoc (pair_numbers (spans rs)) (zeros (count_at - 2 * length rs)) (zeros 4))
     ∙ ap (λ (k : ℕ). (pair_numbers (spans rs) ++ zeros (count_at - 2 * k)) ++ zeros 4) (sym n)
 
-head_stored : (f : FirstNak) (p : List ℕ) (j : ℕ) → length p ≡ count_at → head_put (p ++ zeros 4) j f ≡ p ++ (j ∷ first_numbers f)
-head_stored (First source sequence) p j q =
-    let vs : List ℕ = j ∷ 1 ∷ source ∷ sequence ∷ [] in
+head_stored : (f : Option FirstNak) (p : List ℕ) (j : ℕ) → length p ≡ count_at → head_put (p ++ zeros 4) j f ≡ p ++ (j ∷ first_numbers f)
+head_stored (Some f) p j q =
+    let vs : List ℕ = j ∷ 1 ∷ f.source ∷ f.sequence ∷ [] in
     let room : count_at + 4 ≤ length (p ++ zeros 4) = omega (arith, length-append p (zeros 4)) in
     let end : length (p ++ zeros 4) ≤ count_at + 4 = omega (arith, length-append p (zeros 4)) in
     sets-eq vs (p ++ zeros 4) count_at room
     ∙ ap₂ (λ (x y : List ℕ). (x ++ vs) ++ y) (take_at p (zeros 4) count_at q) (drop_of_length-le (p ++ zeros 4) end)
     ∙ append-nil (p ++ vs)
-head_stored Nothing p j q = set_at p 0 (0 ∷ 0 ∷ 0 ∷ []) j count_at q
+head_stored None p j q = set_at p 0 (0 ∷ 0 ∷ 0 ∷ []) j count_at q
 
 -- with its head stored, that is the memory of the state
-pub put_memory : (rs : List Run) (f : FirstNak) (n : ℕ) → n ≡ length rs → n ≤ most
+pub put_memory : (rs : List Run) (f : Option FirstNak) (n : ℕ) → n ≡ length rs → n ≤ most
     → head_put (laid false (zeros state_size) 0 rs) n f ≡ memory_of (record { ranges = spans rs; first = f })
 put_memory rs f n e h =
     let k : length rs ≤ most = omega arith in
@@ -192,9 +191,9 @@ module _ (s : State) (h : length s.ranges ≤ most) where
   unfolding first_in
   first_back = rw (at_head 1, at_head 2, at_head 3) (go s.first)
     where
-      go : (f : FirstNak) → (if eqb (get_or (first_numbers f) 0 0) 0 then Nothing else First (get_or (first_numbers f) 1 0) (get_or (first_numbers f) 2 0)) ≡ f
-      go (First source sequence) = refl
-      go Nothing = refl
+      go : (f : Option FirstNak) → (if eqb (get_or (first_numbers f) 0 0) 0 then None else Some (record { source = get_or (first_numbers f) 1 0; sequence = get_or (first_numbers f) 2 0 })) ≡ f
+      go (Some f) = refl
+      go None = refl
 
   pub state_back : state_in (memory_of s) ≡ s
   unfolding state_in

@@ -9,20 +9,18 @@ use native.Mathlib.Omega.{arith}
 use lib.Dec.{leb, ltb, eqb}
 use lib.ListN.{length, length-append}
 use borrow.Author.Tests.{le-leb, lt-leb, lt-ltb, le-ltb, ltb-true, ne_eqb}
-use Rattle.fields.specs.Answer.{accepted}
+use Rattle.std.specs.Prelude.{Result, Ok, Err, Option}
+use Rattle.fields.specs.Answer.{Answer, accepted}
 use Rattle.fields.proofs.OneToOne.{one_to_one, answer_back, told_back}
 use Rattle.ranges.specs.declared.owed.FirstNak.{FirstNak}
-use Rattle.ranges.specs.declared.owed.EntryResult.{EntryResult}
-use Rattle.ranges.specs.declared.owed.EntryResult.TheVariants.{Taken, Refused}
-use Rattle.ranges.specs.declared.owed.RunResult.{RunResult}
-use Rattle.ranges.specs.declared.owed.RunResult.TheVariants.{End, Refused as Stopped}
+use Rattle.ranges.specs.declared.owed.Stopped.{Stopped}
 use Rattle.ranges.specs.Pairs.{asks, Rising, ApartBehind, Apart, in_or_not}
 use Rattle.ranges.specs.Runs.{runs}
 use Rattle.ranges.specs.Merging.{largest}
 use Rattle.ranges.specs.Order.{others, disorder}
 use Rattle.ranges.specs.Owing.{Entry, heard, resent, owed_after, ranges_of, State, most, first_with, in_order, differs, differs_from, after, judging}
-use Rattle.ranges.specs.Log.{entry_answer, stop_answer}
-use Rattle.ranges.specs.OwedDemands.{holding, RoomIsUsedAgain, OneEntryResult, OneRunResult}
+use Rattle.ranges.specs.Log.{stop_answer}
+use Rattle.ranges.specs.OwedDemands.{holding, RoomIsUsedAgain, OneRunResult}
 use Rattle.ranges.proofs.Tests.{lt?}
 use Rattle.ranges.proofs.Runs.{runs_apart, runs_beyond}
 use Rattle.ranges.proofs.Spans.{spans_ask, apart_exact, in_apart}
@@ -129,7 +127,7 @@ one_in_order q h =
     let n : q.1 ≡ 0 → ⊥ = λ e. omega arith in
     (rw (ne_eqb q.1 0 n, and-false), rw (ne_eqb q.1 0 n, and-false, le-leb 0 q.0 (let k : 0 ≤ q.0 = omega arith in k), lt-ltb q.0 q.1 h))
 
-module _ (g : ℕ → Bool) (f : FirstNak) (ps qs : List (ℕ × ℕ)) (p : ℕ × ℕ) (e : ranges_of g ≡ ps ++ (p ∷ qs)) (full : length (ranges_of g) ≡ most) where
+module _ (g : ℕ → Bool) (f : Option FirstNak) (ps qs : List (ℕ × ℕ)) (p : ℕ × ℕ) (e : ranges_of g ≡ ps ++ (p ∷ qs)) (full : length (ranges_of g) ≡ most) where
   rising : Rising 0 (ps ++ (p ∷ qs))
   rising = rw e at (ranges_rise g)
 
@@ -193,18 +191,13 @@ pub room_is_used_again : RoomIsUsedAgain
 room_is_used_again g f ps qs p q at next source sequence e full some end same =
     (given_up g f ps qs p e full at, used_again g f ps qs p e full q source sequence some end same next)
 
--- ---- one answer
+stop_from : Answer (Unit {0}) × ℕ → Result ℕ Stopped
+stop_from o = answer_back (λ _. Ok o.1) (λ r. Err (record { refusal = r; at = o.1 })) o.0
 
-entry_back : (r : EntryResult) → answer_back Taken Refused (entry_answer r) ≡ r
-entry_back (Taken n) = refl
-entry_back (Refused r) = told_back Taken Refused r
-
-pub one_entry_result : OneEntryResult
-one_entry_result = one_to_one entry_answer (answer_back Taken Refused) entry_back
-
-stop_back : (r : RunResult) → answer_back (λ _. End (stop_answer r).1) (λ q. Stopped q (stop_answer r).1) (stop_answer r).0 ≡ r
-stop_back (End at) = refl
-stop_back (Stopped r at) = told_back (λ _. End at) (λ q. Stopped q at) r
+stop_back : (r : Result ℕ Stopped) → stop_from (stop_answer r) ≡ r
+unfolding stop_from
+stop_back (Ok at) = refl
+stop_back (Err s) = told_back (λ _. Ok s.at) (λ r. Err (record { refusal = r; at = s.at })) s.refusal
 
 pub one_run_result : OneRunResult
-one_run_result = one_to_one stop_answer (λ o. answer_back (λ _. End o.1) (λ q. Stopped q o.1) o.0) stop_back
+one_run_result = one_to_one stop_answer stop_from stop_back

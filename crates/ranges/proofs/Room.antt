@@ -10,7 +10,7 @@ use native.Mathlib.Omega.{arith}
 use native.Mathlib.Nat.{le-div_iff_mul-le}
 use lib.Dec.{leb, ltb, eqb, lit≤, lit<}
 use lib.ListN.{length, get_or}
-use borrow.Author.Tests.{le-leb, lt-leb, lt-ltb, le-ltb, eq-eqb, ne_eqb, eqb-true, not-false}
+use borrow.Author.Tests.{le-leb, lt-leb, le-ltb, eqb-true, not-false}
 use Rattle.fields.specs.Answer.{Answer, accepted, short, refused, told, and_then}
 use Rattle.std.specs.Prelude.{if◌then◌else◌}
 use Rattle.fields.specs.Staged.{run}
@@ -24,14 +24,14 @@ use Rattle.ranges.specs.declared.merge.Rule.TheVariants.{Differ, Either, Without
 use Rattle.ranges.specs.Runs.{Run, in_front, runs}
 use Rattle.ranges.specs.Pairs.{Rising}
 use Rattle.ranges.specs.Merging.{largest, label_of, labelling, merged}
-use Rattle.ranges.specs.Within.{or_end, edge, passed, closing}
+use Rattle.ranges.specs.Within.{edge, begun, passed, closing}
 use Rattle.ranges.specs.Order.{metadata, others, disorder}
 use Rattle.ranges.specs.Transaction.{same_transaction}
 use Rattle.ranges.specs.Differing.{differences, Compared, compared, comparing_pairs, requests_in, comparing, counted, differing}
 use Rattle.ranges.specs.Room.{NeverOutnumber, NeverNoRoom, EnoughByCount}
 use Rattle.ranges.proofs.Tests.{eq?, lt?}
 use Rattle.ranges.proofs.Runs.{in_front_none, in_front_twice, in_front_unlike, in_front_last, runs_none, runs_apart}
-use Rattle.ranges.proofs.Sides.{Ahead, ahead_start, ahead_passed, edge_ahead, edge_in, edge_out, both_stretch}
+use Rattle.ranges.proofs.Sides.{Ahead, ahead_start, ahead_passed, edge_ahead, edge_in, edge_out, passed_end, passed_not, both_stretch}
 use Rattle.ranges.proofs.Laying.{closing_none, closing_most, length_closed}
 use Rattle.ranges.proofs.Ordering.{disorder_none}
 use Rattle.ranges.proofs.Demands.{pairs_passed}
@@ -47,68 +47,45 @@ abbrev bit : Bool → ℕ
 bit true = 1
 bit false = 0
 
--- the pairs ahead, but for the one at the end of all offsets
-abbrev weight : List (ℕ × ℕ) → ℕ
-weight [] = 0
-weight (p ∷ ps) = (if ltb p.0 p.1 then 1 else 0) + length ps
-
 -- the changes that are left of a side, which asked for the byte before this place, or not
 abbrev changes_left : Bool → ℕ → List (ℕ × ℕ) → ℕ
-changes_left c at [] = 0
-changes_left c at (p ∷ ps) = differs c (leb p.0 at) + (2 * weight (p ∷ ps) - bit (leb p.0 at))
+changes_left c at ps = differs c (begun at ps) + (2 * length ps - bit (begun at ps))
 
 -- ---- one side
 
-weight_some : (p : ℕ × ℕ) (ps : List (ℕ × ℕ)) → p.0 < p.1 → weight (p ∷ ps) ≡ suc (length ps)
-weight_some p ps h = rw (lt-ltb p.0 p.1 h) (let e : 1 + length ps ≡ suc (length ps) = omega arith in e)
-
 -- a change and what it leaves
-one_change : (c d : Bool) (w : ℕ) → 0 < w → differs c d + (2 * w - bit d) ≤ bit c + 2 * w
-one_change true true w h = omega arith
-one_change true false w h = omega arith
-one_change false true w h = omega arith
-one_change false false w h = omega arith
-
-changes_rest : (c : Bool) (e to : ℕ) (r : List (ℕ × ℕ)) → to < largest → Rising e r → changes_left c to (or_end r) ≤ bit c + 2 * length r
-changes_rest c e to [] h k = rw (lt-leb largest to h, le-ltb largest largest (omega arith)) (none c)
+changes_rest : (c : Bool) (at : ℕ) (ps : List (ℕ × ℕ)) → changes_left c at ps ≤ bit c + 2 * length ps
+changes_rest true at [] = lit≤ tt
+changes_rest false at [] = lit≤ tt
+changes_rest c at (p ∷ ps) = go c (leb p.0 at)
   where
-    none : (c : Bool) → differs c false + (2 * (0 + 0) - 0) ≤ bit c + 2 * 0
-    none true = lit≤ tt
-    none false = lit≤ tt
-changes_rest c e to (q ∷ qs) h k =
-    let w = weight_some q qs k.1 in
-    let o = one_change c (leb q.0 to) (weight (q ∷ qs)) (omega arith) in
-    omega arith
+    go : (c d : Bool) → differs c d + (2 * suc (length ps) - bit d) ≤ bit c + 2 * suc (length ps)
+    go true true = omega arith
+    go true false = omega arith
+    go false true = omega arith
+    go false false = omega arith
 
-module _ (all : List (ℕ × ℕ)) (at from end : ℕ) (rest : List (ℕ × ℕ)) (inside : at < largest) where
+module _ (all : List (ℕ × ℕ)) (at : ℕ) where
   -- behind a stretch there are no more changes left than before it, but for the one at its start
-  side_pays : (to : ℕ) → Ahead all at ((from, end) ∷ rest) → at < to → to < largest → to ≤ edge at from end
-      → changes_left (leb from at) to (passed to ((from, end) ∷ rest)) ≤ 2 * weight ((from, end) ∷ rest) - bit (leb from at)
-  unfolding Ahead
-  side_pays to h k m l = ⊎_elim (λ u. outside u (edge_out at from end u)) (λ u. inner u (edge_in at from end u)) (lt? at from)
+  side_pays : (ps : List (ℕ × ℕ)) (to : ℕ) → Ahead all at ps → at < to → to ≤ edge at ps
+      → changes_left (begun at ps) to (passed to ps) ≤ 2 * length ps - bit (begun at ps)
+  side_pays [] to h k l = lit≤ tt
+  side_pays (p ∷ ps) to h k l = ⊎_elim (λ u. outside u (edge_out at p ps u)) (λ u. inner u (edge_in at p ps u)) (lt? at p.0)
     where
       -- not yet in the pair
-      outside : at < from → edge at from end ≡ from
-          → changes_left (leb from at) to (passed to ((from, end) ∷ rest)) ≤ 2 * weight ((from, end) ∷ rest) - bit (leb from at)
+      outside : at < p.0 → edge at (p ∷ ps) ≡ p.0 → changes_left (leb p.0 at) to (passed to (p ∷ ps)) ≤ 2 * suc (length ps) - bit (leb p.0 at)
       outside u e =
-          rw (lt-leb from at u)
-          (⊎_elim
-          (λ v. rw (eq-eqb end to v, le-ltb from end (omega (arith, h.1))) (let r = changes_rest false end to rest m h.3 in omega arith))
-          (λ v. rw (ne_eqb end to v)
-          (⊎_elim (λ x. rw (lt-leb from to x) (omega arith))
-          (λ x. rw (le-leb from to x, lt-ltb from end (let b : from < end = omega (arith, h.1, v) in b)) (omega arith))
-          (lt? to from)))
-          (eq? end to))
+          rw (lt-leb p.0 at u, passed_not to p ps (λ v. absurd (let b : ⊥ = omega (arith, h.next.0) in b)))
+          (⊎_elim (λ x. rw (lt-leb p.0 to x) (omega arith)) (λ x. rw (le-leb p.0 to x) (omega arith)) (lt? to p.0))
 
       -- in the pair
-      inner : from ≤ at → edge at from end ≡ end
-          → changes_left (leb from at) to (passed to ((from, end) ∷ rest)) ≤ 2 * weight ((from, end) ∷ rest) - bit (leb from at)
+      inner : p.0 ≤ at → edge at (p ∷ ps) ≡ p.1 → changes_left (leb p.0 at) to (passed to (p ∷ ps)) ≤ 2 * suc (length ps) - bit (leb p.0 at)
       inner u e =
-          rw (le-leb from at u, lt-ltb from end (let b : from < end = omega (arith, h.2 inside) in b))
+          rw (le-leb p.0 at u)
           (⊎_elim
-          (λ v. rw (eq-eqb end to v) (let r = changes_rest true end to rest m h.3 in omega arith))
-          (λ v. rw (ne_eqb end to v, le-leb from to (let b : from ≤ to = omega arith in b), lt-ltb from end (let b : from < end = omega (arith, h.2 inside) in b)) (omega arith))
-          (eq? end to))
+          (λ v. rw (passed_end to p ps v) (let r = changes_rest true to ps in omega arith))
+          (λ v. rw (passed_not to p ps v, le-leb p.0 to (let b : p.0 ≤ to = omega arith in b)) (omega arith))
+          (eq? p.1 to))
 
 -- ---- both sides
 
@@ -203,63 +180,52 @@ module _ (rule : Rule) (ps qs : List (ℕ × ℕ)) where
       let z : largest - at ≡ 0 = omega arith in
       rw (z, runs_none (labelling rule ps qs) at) (omega (arith, last_pays s at k))
 
-  module _ (p : ℕ × ℕ) (r₁ : List (ℕ × ℕ)) (q : ℕ × ℕ) (r₂ : List (ℕ × ℕ)) (at s k : ℕ) (c₁ c₂ : Bool) (fuel : ℕ) (f : largest - at ≤ suc fuel) (h₁ : Ahead ps at (p ∷ r₁)) (h₂ : Ahead qs at (q ∷ r₂)) (ek : k ≡ label_of rule c₁ c₂) where
-    module _ (more : (to s' l : ℕ) (d₁ d₂ : Bool) → largest - to ≤ fuel → Ahead ps to (passed to (p ∷ r₁)) → Ahead qs to (passed to (q ∷ r₂)) → l ≡ label_of rule d₁ d₂
-        → 2 * length (in_front s' to l (runs (labelling rule ps qs) to (largest - to))) ≤ closing l + changes_left d₁ to (passed to (p ∷ r₁)) + changes_left d₂ to (passed to (q ∷ r₂)) + 1) where
-      stretch_to : at < largest → (to : ℕ) → to ≤ edge at p.0 p.1 → to ≤ edge at q.0 q.1 → at < to
-          → 2 * length (in_front s at k (runs (labelling rule ps qs) at (largest - at))) ≤ closing k + changes_left c₁ at (p ∷ r₁) + changes_left c₂ at (q ∷ r₂) + 1
+  module _ (l₁ l₂ : List (ℕ × ℕ)) (at s k : ℕ) (c₁ c₂ : Bool) (fuel : ℕ) (f : largest - at ≤ suc fuel) (h₁ : Ahead ps at l₁) (h₂ : Ahead qs at l₂) (ek : k ≡ label_of rule c₁ c₂) where
+    module _ (more : (m₁ m₂ : List (ℕ × ℕ)) (to s' l : ℕ) (d₁ d₂ : Bool) → largest - to ≤ fuel → Ahead ps to m₁ → Ahead qs to m₂ → l ≡ label_of rule d₁ d₂
+        → 2 * length (in_front s' to l (runs (labelling rule ps qs) to (largest - to))) ≤ closing l + changes_left d₁ to m₁ + changes_left d₂ to m₂ + 1) where
+      stretch_to : at < largest → (to : ℕ) → to ≤ edge at l₁ → to ≤ edge at l₂ → at < to
+          → 2 * length (in_front s at k (runs (labelling rule ps qs) at (largest - at))) ≤ closing k + changes_left c₁ at l₁ + changes_left c₂ at l₂ + 1
       stretch_to inside to k₁ k₂ a =
           ⊎_elim
           (λ u.
-          stretch_pays at to s k l (changes_left d₁ to (passed to (p ∷ r₁))) (changes_left d₂ to (passed to (q ∷ r₂))) (2 * weight (p ∷ r₁) - bit d₁)
-          (2 * weight (q ∷ r₂) - bit d₂) c₁ c₂ d₁ d₂ a
-          (both_stretch rule ps qs at inside p.0 p.1 r₁ q.0 q.1 r₂ to l h₁ h₂ k₁ k₂ a (omega arith) refl) ek refl
-          (side_pays ps at p.0 p.1 r₁ inside to h₁ a u k₁) (side_pays qs at q.0 q.1 r₂ inside to h₂ a u k₂)
-          (λ s'. more to s' l d₁ d₂ (omega arith) (ahead_passed ps at p.0 p.1 r₁ inside to h₁ a k₁) (ahead_passed qs at q.0 q.1 r₂ inside to h₂ a k₂) refl))
+          stretch_pays at to s k l (changes_left d₁ to (passed to l₁)) (changes_left d₂ to (passed to l₂)) (2 * length l₁ - bit d₁)
+          (2 * length l₂ - bit d₂) c₁ c₂ d₁ d₂ a
+          (both_stretch rule ps qs at l₁ l₂ to l h₁ h₂ k₁ k₂ a (omega arith) refl) ek refl
+          (side_pays ps at l₁ to h₁ a k₁) (side_pays qs at l₂ to h₂ a k₂)
+          (λ s'. more (passed to l₁) (passed to l₂) to s' l d₁ d₂ (omega arith) (ahead_passed ps at l₁ to h₁ a k₁) (ahead_passed qs at l₂ to h₂ a k₂) refl))
           (λ u.
-          stretch_pays at largest s k l 0 0 (2 * weight (p ∷ r₁) - bit d₁) (2 * weight (q ∷ r₂) - bit d₂) c₁ c₂ d₁ d₂ inside
-          (both_stretch rule ps qs at inside p.0 p.1 r₁ q.0 q.1 r₂ largest l h₁ h₂ (omega arith) (omega arith) inside (omega arith) refl) ek refl
+          stretch_pays at largest s k l 0 0 (2 * length l₁ - bit d₁) (2 * length l₂ - bit d₂) c₁ c₂ d₁ d₂ inside
+          (both_stretch rule ps qs at l₁ l₂ largest l h₁ h₂ (omega arith) (omega arith) inside (omega arith) refl) ek refl
           (omega arith) (omega arith)
           (λ s'. let b = ends_pay largest s' l (0 + 0) (omega arith) in omega arith))
           (lt? to largest)
         where
           d₁ : Bool
-          d₁ = leb p.0 at
+          d₁ = begun at l₁
 
           d₂ : Bool
-          d₂ = leb q.0 at
+          d₂ = begun at l₂
 
           l : ℕ
           l = label_of rule d₁ d₂
 
-      one_step : 2 * length (in_front s at k (runs (labelling rule ps qs) at (largest - at))) ≤ closing k + changes_left c₁ at (p ∷ r₁) + changes_left c₂ at (q ∷ r₂) + 1
+      one_step : 2 * length (in_front s at k (runs (labelling rule ps qs) at (largest - at))) ≤ closing k + changes_left c₁ at l₁ + changes_left c₂ at l₂ + 1
       one_step =
           ⊎_elim
           (λ inside.
-          let a₁ = edge_ahead ps at p.0 p.1 r₁ inside h₁ in
-          let a₂ = edge_ahead qs at q.0 q.1 r₂ inside h₂ in
-          ⊎_elim (λ u. stretch_to inside (edge at q.0 q.1) (omega arith) (omega arith) a₂)
-          (λ u. stretch_to inside (edge at p.0 p.1) (omega arith) u a₁) (lt? (edge at q.0 q.1) (edge at p.0 p.1)))
-          (λ u. let b = ends_pay at s k (changes_left c₁ at (p ∷ r₁) + changes_left c₂ at (q ∷ r₂)) u in omega arith)
+          let a₁ = edge_ahead ps at l₁ inside h₁ in
+          let a₂ = edge_ahead qs at l₂ inside h₂ in
+          ⊎_elim (λ u. stretch_to inside (edge at l₂) (omega arith) (omega arith) a₂)
+          (λ u. stretch_to inside (edge at l₁) (omega arith) u a₁) (lt? (edge at l₂) (edge at l₁)))
+          (λ u. let b = ends_pay at s k (changes_left c₁ at l₁ + changes_left c₂ at l₂) u in omega arith)
           (lt? at largest)
-
-  by_lists : (l₁ l₂ : List (ℕ × ℕ)) (at s k : ℕ) (c₁ c₂ : Bool) (fuel : ℕ) → largest - at ≤ suc fuel → Ahead ps at l₁ → Ahead qs at l₂ → k ≡ label_of rule c₁ c₂
-      → ((m₁ m₂ : List (ℕ × ℕ)) (to s' l : ℕ) (d₁ d₂ : Bool) → largest - to ≤ fuel → Ahead ps to m₁ → Ahead qs to m₂ → l ≡ label_of rule d₁ d₂
-      → 2 * length (in_front s' to l (runs (labelling rule ps qs) to (largest - to))) ≤ closing l + changes_left d₁ to m₁ + changes_left d₂ to m₂ + 1)
-      → 2 * length (in_front s at k (runs (labelling rule ps qs) at (largest - at))) ≤ closing k + changes_left c₁ at l₁ + changes_left c₂ at l₂ + 1
-  unfolding Ahead
-  by_lists [] l₂ at s k c₁ c₂ fuel f h₁ h₂ ek more = absurd h₁
-  by_lists (p ∷ r₁) [] at s k c₁ c₂ fuel f h₁ h₂ ek more = absurd h₂
-  by_lists (p ∷ r₁) (q ∷ r₂) at s k c₁ c₂ fuel f h₁ h₂ ek more =
-      one_step p r₁ q r₂ at s k c₁ c₂ fuel f h₁ h₂ ek (λ to. more (passed to (p ∷ r₁)) (passed to (q ∷ r₂)) to)
 
   ranges_pay : (fuel : ℕ) (l₁ l₂ : List (ℕ × ℕ)) (at s k : ℕ) (c₁ c₂ : Bool) → largest - at ≤ fuel → Ahead ps at l₁ → Ahead qs at l₂ → k ≡ label_of rule c₁ c₂
       → 2 * length (in_front s at k (runs (labelling rule ps qs) at (largest - at))) ≤ closing k + changes_left c₁ at l₁ + changes_left c₂ at l₂ + 1
   ranges_pay zero l₁ l₂ at s k c₁ c₂ f h₁ h₂ ek =
       let b = ends_pay at s k (changes_left c₁ at l₁ + changes_left c₂ at l₂) (omega arith) in
       omega arith
-  ranges_pay (suc fuel) l₁ l₂ at s k c₁ c₂ f h₁ h₂ ek =
-      by_lists l₁ l₂ at s k c₁ c₂ fuel f h₁ h₂ ek (λ m₁ m₂ to s' l d₁ d₂ g a₁ a₂ e. ranges_pay fuel m₁ m₂ to s' l d₁ d₂ g a₁ a₂ e)
+  ranges_pay (suc fuel) l₁ l₂ at s k c₁ c₂ f h₁ h₂ ek = one_step l₁ l₂ at s k c₁ c₂ fuel f h₁ h₂ ek (ranges_pay fuel)
 
 -- ---- the promise
 
@@ -268,17 +234,14 @@ labels_none Differ = refl
 labels_none Either = refl
 labels_none Without = refl
 
-changes_all : (ps : List (ℕ × ℕ)) → Rising 0 ps → changes_left false 0 (or_end ps) ≤ 2 * length ps
-changes_all ps h = let b = changes_rest false 0 0 ps (omega arith) h in omega arith
-
 -- 'the ranges it writes never outnumber the requests' of both
 pub merged_most : (rule : Rule) (ps qs : List (ℕ × ℕ)) → Rising 0 ps → Rising 0 qs → length (merged rule ps qs) ≤ length ps + length qs
 unfolding merged
 merged_most rule ps qs h₁ h₂ =
-    let b = ranges_pay rule ps qs largest (or_end ps) (or_end qs) 0 0 0 false false (omega arith) (ahead_start ps h₁) (ahead_start qs h₂) (labels_none rule) in
+    let b = ranges_pay rule ps qs largest ps qs 0 0 0 false false (omega arith) (ahead_start ps h₁) (ahead_start qs h₂) (labels_none rule) in
     let e = ap length (in_front_none 0 0 0 (runs (labelling rule ps qs) 0 largest) refl) in
     let z = closing_none 0 refl in
-    omega (arith, changes_all ps h₁, changes_all qs h₂)
+    omega (arith, changes_rest false 0 ps, changes_rest false 0 qs)
 
 -- ---- the comparison
 

@@ -9,13 +9,12 @@ use native.Mathlib.Omega.{arith}
 use lib.ListN.{length, drop, length-drop}
 use lib.Seq.{drop-drop}
 use borrow.Author.Tests.{eq-eqb, ne_eqb}
-use Rattle.std.specs.Prelude.{if◌then◌else◌}
+use Rattle.std.specs.Prelude.{if◌then◌else◌, Result, Ok, Err, MatchResult}
 use Rattle.fields.specs.Answer.{Answer, accepted, short, refused, told, and_then}
 use Rattle.fields.proofs.Judging.{told_no, told_as, told_short, went, same_accepted}
 use Rattle.tlv.specs.declared.Form.TheVariants.{LongTlv}
 use Rattle.tlv.specs.declared.Field.{Field}
-use Rattle.tlv.specs.declared.read.FieldResult.{FieldResult}
-use Rattle.tlv.specs.declared.read.FieldResult.TheVariants.{Field as Whole, Cut}
+use Rattle.tlv.specs.declared.Cut.{Cut}
 use Rattle.tlv.specs.Reading.{field_in}
 use Rattle.tlv.proofs.Reading.{is_field, field_inside}
 use Rattle.ranges.specs.Owing.{Entry, State, judging}
@@ -46,12 +45,12 @@ pub read_whole : (at : ℕ) (s : List ℕ) (e : Entry) → accepted e ≡ readin
 unfolding reading_entry
 read_whole at s e k = go (field_in LongTlv s 0) refl k
   where
-    go : (r : FieldResult) → field_in LongTlv s 0 ≡ r → accepted e ≡ entry_in at s r → (entry_size s ≤ length s) × (0 < entry_size s)
-    go (Whole f) p q =
+    go : (r : Result Field Cut) → field_in LongTlv s 0 ≡ r → accepted e ≡ entry_in at s r → (entry_size s ≤ length s) × (0 < entry_size s)
+    go (Ok f) p q =
         let i = field_inside LongTlv s 0 f p in
         let stop : entry_size s ≡ f.stop = ap (λ (x : Field). x.stop) (is_field LongTlv s 0 f p).1 in
         ((is_field LongTlv s 0 f p).0, omega (arith, i.starts, i.stops))
-    go (Cut place) p q = absurd (let z : ◌≡◌ {A = ℕ} 0 1 = cc in let b : ⊥ = omega arith in b)
+    go (Err cut) p q = absurd (let z : ◌≡◌ {A = ℕ} 0 1 = cc in let b : ⊥ = omega arith in b)
 
 pub taken_whole : (at : ℕ) (s m : List ℕ) (t : State) → entering at s m ≡ accepted t → (entry_size s ≤ length s) × (0 < entry_size s)
 taken_whole at s m t e = let k = took at s m t e in read_whole at s k.entry k.read
@@ -112,6 +111,17 @@ running_some at s m e =
     ∙ go_on_like (entering at s m) at m (λ t. run_for (length s) (at + entry_size s) (drop (entry_size s) s) (memory_of t))
     (λ t. run_for (length (drop (entry_size s) s)) (at + entry_size s) (drop (entry_size s) s) (memory_of t))
     (λ t q. for_enough (length s) (length (drop (entry_size s) s)) (at + entry_size s) (drop (entry_size s) s) (memory_of t) (omega (arith, length-drop (entry_size s) s)) (omega arith))
+
+-- ---- behind `map_err(..)?`
+
+module _ {T E : Type 0} (D : Type 0) where
+  pub mapped_ok : (r : Result T E) (Q : E → Type 0) (x : T) → MatchResult r (λ y. ◌≡◌ {A = Result T D} (Ok x) (Ok y)) Q → ((e : E) → Q e → ⊥) → Ok x ≡ r
+  mapped_ok (Ok y) Q x p n = ap (λ y. Ok y) (cc)
+  mapped_ok (Err e) Q x p n = absurd (n e p)
+
+  pub mapped_err : (r : Result T E) (Q : E → Type 0) (d : D) → MatchResult r (λ y. ◌≡◌ {A = Result T D} (Err d) (Ok y)) Q → (e : E) × (Err e ≡ r) × Q e
+  mapped_err (Ok y) Q d p = absurd (cc)
+  mapped_err (Err e) Q d p = (e, refl, p)
 
 -- ---- the loop
 

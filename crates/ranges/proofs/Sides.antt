@@ -6,20 +6,24 @@ use mathlib.Core.Bool.{true, false, and-false}
 use mathlib.Core.List.{List, [], ◌∷◌}
 use mathlib.Core.Logic.{⊎_elim}
 use native.Mathlib.Omega.{arith}
-use lib.Dec.{leb}
 use borrow.Author.Tests.{le-leb, lt-leb, lt-ltb, le-ltb, eq-eqb, ne_eqb}
 use Rattle.ranges.specs.declared.merge.Rule.{Rule}
 use Rattle.ranges.specs.Runs.{in_front, runs}
 use Rattle.ranges.specs.Pairs.{asks, Rising}
 use Rattle.ranges.specs.Merging.{largest, label_of, labelling}
-use Rattle.ranges.specs.Within.{or_end, edge, passed}
+use Rattle.ranges.specs.Within.{edge, begun, passed}
 use Rattle.ranges.proofs.Tests.{eq?, lt?}
 use Rattle.ranges.proofs.Runs.{runs_stretch}
 
--- the pairs that lie ahead of a place, the first with its end: `all` asks for the same bytes from there on
-unfoldable pub Ahead : List (ℕ × ℕ) → ℕ → List (ℕ × ℕ) → Type 0
-Ahead all at [] = ⊥
-Ahead all at (p ∷ ps) = ((b : ℕ) → at ≤ b → asks all b ≡ asks (p ∷ ps) b) × (p.0 ≤ p.1) × (at < largest → at < p.1) × Rising p.1 ps
+-- the first pair's end lies ahead, and those behind it rise
+abbrev pub Next : ℕ → List (ℕ × ℕ) → Type 0
+Next at [] = Unit {0}
+Next at (p ∷ ps) = (p.0 < p.1) × (at < p.1) × Rising p.1 ps
+
+-- the pairs that lie ahead of a place: `all` asks for the same bytes from there on
+pub record Ahead (all : List (ℕ × ℕ)) (at : ℕ) (ps : List (ℕ × ℕ)) : Type 0 where
+  pub same : (b : ℕ) → at ≤ b → asks all b ≡ asks ps b
+  pub next : Next at ps
 
 -- ---- which bytes a list asks for
 
@@ -37,72 +41,69 @@ asks_below : (e b : ℕ) (ps : List (ℕ × ℕ)) → Rising e ps → b < e → 
 asks_below e b [] h k = refl
 asks_below e b (p ∷ ps) h k = asks_before p ps b (omega (arith, h.0)) ∙ asks_below p.1 b ps h.2 (omega (arith, h.0, h.1))
 
--- the pair at the end of all offsets asks for nothing
-asks_end : (b : ℕ) → asks ((largest, largest) ∷ []) b ≡ false
-asks_end b = ⊎_elim (λ h. asks_before (largest, largest) [] b h) (λ h. asks_after (largest, largest) [] b h) (lt? b largest)
-
 -- ---- where a side is
 
-pub ahead_start : (all : List (ℕ × ℕ)) → Rising 0 all → Ahead all 0 (or_end all)
-unfolding Ahead
-ahead_start [] h = ((λ b k. sym (asks_end b)), omega arith, (λ k. k), tt)
-ahead_start (p ∷ ps) h = ((λ b k. refl), omega (arith, h.1), (λ k. omega (arith, h.1)), h.2)
+next_rising : (e : ℕ) (ps : List (ℕ × ℕ)) → Rising e ps → Next e ps
+next_rising e [] h = tt
+next_rising e (p ∷ ps) h = (h.1, omega (arith, h.0, h.1), h.2)
 
--- behind the first pair's end the pairs behind it lie ahead
-behind : (all : List (ℕ × ℕ)) (to : ℕ) (p : ℕ × ℕ) (ps : List (ℕ × ℕ)) → ((b : ℕ) → to ≤ b → asks all b ≡ asks (p ∷ ps) b) → p.1 ≡ to
-    → Rising p.1 ps → Ahead all to (or_end ps)
-unfolding Ahead
-behind all to p [] same e h = ((λ b k. same b k ∙ asks_after p [] b (omega arith) ∙ sym (asks_end b)), omega arith, (λ k. k), tt)
-behind all to p (q ∷ qs) same e h = ((λ b k. same b k ∙ asks_after p (q ∷ qs) b (omega arith)), omega (arith, h.1), (λ k. omega (arith, h.0, h.1)), h.2)
+pub ahead_start : (all : List (ℕ × ℕ)) → Rising 0 all → Ahead all 0 all
+ahead_start all h = record { same = λ b k. refl; next = next_rising 0 all h }
 
-module _ (at from end : ℕ) (rest : List (ℕ × ℕ)) where
-  pub passed_end : end ≡ at → or_end rest ≡ passed at ((from, end) ∷ rest)
+module _ (at : ℕ) (p : ℕ × ℕ) (ps : List (ℕ × ℕ)) where
+  pub edge_in : p.0 ≤ at → edge at (p ∷ ps) ≡ p.1
+  edge_in h = rw (le-leb _ _ h)
+
+  pub edge_out : at < p.0 → edge at (p ∷ ps) ≡ p.0
+  edge_out h = rw (lt-leb _ _ h)
+
+  pub passed_end : p.1 ≡ at → passed at (p ∷ ps) ≡ ps
   passed_end e = rw (eq-eqb _ _ e)
 
-  pub passed_not : (end ≡ at → ⊥) → (from, end) ∷ rest ≡ passed at ((from, end) ∷ rest)
+  pub passed_not : (p.1 ≡ at → ⊥) → passed at (p ∷ ps) ≡ p ∷ ps
   passed_not e = rw (ne_eqb _ _ e)
 
-pub edge_in : (at from to : ℕ) → from ≤ at → edge at from to ≡ to
-edge_in at from to h = rw (le-leb _ _ h)
-
-pub edge_out : (at from to : ℕ) → at < from → edge at from to ≡ from
-edge_out at from to h = rw (lt-leb _ _ h)
-
-module _ (all : List (ℕ × ℕ)) (at from end : ℕ) (rest : List (ℕ × ℕ)) (inside : at < largest) where
+module _ (all : List (ℕ × ℕ)) (at : ℕ) where
   -- the next change lies ahead
-  pub edge_ahead : Ahead all at ((from, end) ∷ rest) → at < edge at from end
-  unfolding Ahead
-  edge_ahead h = ⊎_elim (λ u. rw (edge_out at from end u) u) (λ u. rw (edge_in at from end u) (h.2 inside)) (lt? at from)
+  pub edge_ahead : (ps : List (ℕ × ℕ)) → at < largest → Ahead all at ps → at < edge at ps
+  edge_ahead [] inside h = inside
+  edge_ahead (p ∷ ps) inside h = ⊎_elim (λ u. rw (edge_out at p ps u) u) (λ u. rw (edge_in at p ps u) h.next.1) (lt? at p.0)
 
-  edge_most : Ahead all at ((from, end) ∷ rest) → edge at from end ≤ end
-  unfolding Ahead
-  edge_most h = ⊎_elim (λ u. rw (edge_out at from end u) h.1) (λ u. rw (edge_in at from end u) (omega arith)) (lt? at from)
+  edge_most : (p : ℕ × ℕ) (ps : List (ℕ × ℕ)) → Ahead all at (p ∷ ps) → edge at (p ∷ ps) ≤ p.1
+  edge_most p ps h = ⊎_elim (λ u. rw (edge_out at p ps u) (omega (arith, h.next.0))) (λ u. rw (edge_in at p ps u) (omega arith)) (lt? at p.0)
 
   -- up to there it asks for every byte, or for none
-  pub stretch_asks : (to b : ℕ) → Ahead all at ((from, end) ∷ rest) → to ≤ edge at from end → at ≤ b → b < to → asks all b ≡ leb from at
-  unfolding Ahead
-  stretch_asks to b h k p q =
-      h.0 b p
+  pub stretch_asks : (ps : List (ℕ × ℕ)) (to b : ℕ) → Ahead all at ps → to ≤ edge at ps → at ≤ b → b < to → asks all b ≡ begun at ps
+  stretch_asks [] to b h k l m = h.same b l
+  stretch_asks (p ∷ ps) to b h k l m =
+      h.same b l
       ∙ ⊎_elim
-      (λ u. let e = edge_out at from end u in asks_before (from, end) rest b (omega arith) ∙ asks_below end b rest h.3 (omega (arith, h.1)) ∙ sym (lt-leb _ _ u))
-      (λ u. let e = edge_in at from end u in asks_here (from, end) rest b (omega arith) (omega arith) ∙ sym (le-leb _ _ u))
-      (lt? at from)
+      (λ u.
+      let e = edge_out at p ps u in
+      asks_before p ps b (omega arith) ∙ asks_below p.1 b ps h.next.2 (omega (arith, h.next.0)) ∙ sym (lt-leb _ _ u))
+      (λ u. let e = edge_in at p ps u in asks_here p ps b (omega arith) (omega arith) ∙ sym (le-leb _ _ u))
+      (lt? at p.0)
 
   -- and there the side is ahead again, with the next pair where this one ended
-  pub ahead_passed : (to : ℕ) → Ahead all at ((from, end) ∷ rest) → at < to → to ≤ edge at from end → Ahead all to (passed to ((from, end) ∷ rest))
-  unfolding Ahead
-  ahead_passed to h k l =
-      let m = edge_most h in
-      ⊎_elim (λ e. rw (eq-eqb end to e) (behind all to (from, end) rest (λ b u. h.0 b (omega arith)) e h.3))
-      (λ e. rw (ne_eqb end to e) ((λ b u. h.0 b (omega arith)), h.1, (λ u. omega (arith, e)), h.3))
-      (eq? end to)
+  pub ahead_passed : (ps : List (ℕ × ℕ)) (to : ℕ) → Ahead all at ps → at < to → to ≤ edge at ps → Ahead all to (passed to ps)
+  ahead_passed [] to h k l = record { same = λ b u. h.same b (omega arith); next = tt }
+  ahead_passed (p ∷ ps) to h k l =
+      let m = edge_most p ps h in
+      ⊎_elim
+      (λ e.
+      rw (passed_end to p ps e)
+      (record { same = λ b u. h.same b (omega arith) ∙ asks_after p ps b (omega arith); next = rw e at (next_rising p.1 ps h.next.2) }))
+      (λ e.
+      rw (passed_not to p ps e)
+      (record { same = λ b u. h.same b (omega arith); next = (h.next.0, omega (arith, e), h.next.2) }))
+      (eq? p.1 to)
 
 -- ---- both sides: a stretch of one label
 
-module _ (rule : Rule) (all₁ all₂ : List (ℕ × ℕ)) (at : ℕ) (inside : at < largest) (f₁ e₁ : ℕ) (r₁ : List (ℕ × ℕ)) (f₂ e₂ : ℕ) (r₂ : List (ℕ × ℕ)) where
-  pub both_stretch : (to l : ℕ) → Ahead all₁ at ((f₁, e₁) ∷ r₁) → Ahead all₂ at ((f₂, e₂) ∷ r₂) → to ≤ edge at f₁ e₁ → to ≤ edge at f₂ e₂ → at < to
-      → to ≤ largest → l ≡ label_of rule (leb f₁ at) (leb f₂ at)
+module _ (rule : Rule) (all₁ all₂ : List (ℕ × ℕ)) (at : ℕ) (ps qs : List (ℕ × ℕ)) where
+  pub both_stretch : (to l : ℕ) → Ahead all₁ at ps → Ahead all₂ at qs → to ≤ edge at ps → to ≤ edge at qs → at < to → to ≤ largest
+      → l ≡ label_of rule (begun at ps) (begun at qs)
       → runs (labelling rule all₁ all₂) at (largest - at) ≡ in_front at to l (runs (labelling rule all₁ all₂) to (largest - to))
   both_stretch to l h₁ h₂ k₁ k₂ p q e =
       runs_stretch (labelling rule all₁ all₂) l at to largest p q
-      (λ b u v. ap₂ (label_of rule) (stretch_asks all₁ at f₁ e₁ r₁ inside to b h₁ k₁ u v) (stretch_asks all₂ at f₂ e₂ r₂ inside to b h₂ k₂ u v) ∙ sym e)
+      (λ b u v. ap₂ (label_of rule) (stretch_asks all₁ at ps to b h₁ k₁ u v) (stretch_asks all₂ at qs to b h₂ k₂ u v) ∙ sym e)

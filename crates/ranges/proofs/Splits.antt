@@ -8,13 +8,11 @@ use native.Mathlib.Omega.{arith}
 use native.Mathlib.Nat.{add-zero}
 use lib.ListN.{length, drop, length-append, length-drop}
 use lib.Seq.{drop-append-le, take-append_seam}
-use Rattle.std.specs.Prelude.{if◌then◌else◌}
+use Rattle.std.specs.Prelude.{if◌then◌else◌, Result, Ok, Err}
 use Rattle.fields.specs.Answer.{Answer, accepted, short, refused, and_then}
 use Rattle.tlv.specs.declared.Form.TheVariants.{LongTlv}
 use Rattle.tlv.specs.declared.Field.{Field}
-use Rattle.tlv.specs.declared.read.FieldResult.TheVariants.{Field as Whole}
-use Rattle.tlv.specs.declared.walk.FirstCut.{FirstCut}
-use Rattle.tlv.specs.declared.walk.FirstCut.TheVariants.{At, Nothing}
+use Rattle.tlv.specs.declared.Cut.{Cut}
 use Rattle.tlv.specs.Reading.{stop_at, field_at, field_in, value_of}
 use Rattle.tlv.specs.Walking.{first_cut, reach}
 use Rattle.tlv.specs.Parts.{further_on}
@@ -31,29 +29,29 @@ use Rattle.ranges.proofs.Running.{go_on_like, running_none, running_some, taken_
 
 -- ---- whole entries, the first and the rest
 
-module _ (xs : List ℕ) (uncut : first_cut LongTlv xs 0 ≡ Nothing) (some : length xs ≡ 0 → ⊥) where
+module _ (xs : List ℕ) (uncut : first_cut LongTlv xs 0 ≡ Ok tt) (some : length xs ≡ 0 → ⊥) where
   pub first_whole : entry_size xs ≤ length xs
   first_whole = ⊎_elim (λ u. u) (λ u. absurd (none u)) (whole? LongTlv xs 0)
     where
       none : length xs < stop_at LongTlv xs 0 → ⊥
       none u = let r = uncut_reach LongTlv xs 0 uncut in let z = reach_here LongTlv xs 0 u in let k : length xs ≡ 0 = omega arith in some k
 
-  pub rest_uncut : first_cut LongTlv (drop (entry_size xs) xs) 0 ≡ Nothing
+  pub rest_uncut : first_cut LongTlv (drop (entry_size xs) xs) 0 ≡ Ok tt
   rest_uncut =
       let r : length xs ≤ reach LongTlv xs (entry_size xs) = rw (reach_on LongTlv xs 0 first_whole) (uncut_reach LongTlv xs 0 uncut) in
       back (first_cut LongTlv (drop (entry_size xs) xs) 0) (sym (part_shows LongTlv xs (entry_size xs) first_whole).cut ∙ reach_uncut LongTlv xs (entry_size xs) r)
     where
-      back : (c : FirstCut) → further_on (entry_size xs) c ≡ Nothing → c ≡ Nothing
-      back Nothing e = refl
-      back (At place) e = absurd (let z : ◌≡◌ {A = ℕ} 0 1 = cc in let b : ⊥ = omega arith in b)
+      back : (c : Result (Unit {0}) Cut) → further_on (entry_size xs) c ≡ Ok tt → c ≡ Ok tt
+      back (Ok t) e = refl
+      back (Err cut) e = absurd (let z : ◌≡◌ {A = ℕ} 0 1 = cc in let b : ⊥ = omega arith in b)
 
 -- ---- with bytes behind
 
 module _ (at : ℕ) (xs ys m : List ℕ) (h : entry_size xs ≤ length xs) where
-  here : field_in LongTlv xs 0 ≡ Whole (field_at LongTlv xs 0)
+  here : field_in LongTlv xs 0 ≡ Ok (field_at LongTlv xs 0)
   here = sym (field_whole LongTlv xs 0 h)
 
-  there : field_in LongTlv (xs ++ ys) 0 ≡ Whole (field_at LongTlv xs 0)
+  there : field_in LongTlv (xs ++ ys) 0 ≡ Ok (field_at LongTlv xs 0)
   there = whole_stays LongTlv xs ys 0 (field_at LongTlv xs 0) here
 
   pub same_size : entry_size (xs ++ ys) ≡ entry_size xs
@@ -96,7 +94,7 @@ splits_none at xs ys m e =
     rw (no_bytes xs e)
     (ap (λ (k : ℕ). running k ys m) (sym (add-zero at)) ∙ sym (ap (λ (r : Ran). then_run r (running (at + 0) ys)) (running_none at [] m refl)))
 
-splits_some : (at : ℕ) (xs ys m : List ℕ) → first_cut LongTlv xs 0 ≡ Nothing → (length xs ≡ 0 → ⊥)
+splits_some : (at : ℕ) (xs ys m : List ℕ) → first_cut LongTlv xs 0 ≡ Ok tt → (length xs ≡ 0 → ⊥)
     → ((t : State) → length (drop (entry_size xs) xs) < length xs → Splits (at + entry_size xs) (drop (entry_size xs) xs) ys (memory_of t)) → Splits at xs ys m
 splits_some at xs ys m uncut some more =
     let all : length (xs ++ ys) ≡ 0 → ⊥ = λ e. some (omega (arith, length-append xs ys)) in
@@ -111,7 +109,7 @@ splits_some at xs ys m uncut some more =
     ∙ sym (then_on (entering at xs m) at m (rest xs) (running (at + length xs) ys))
     ∙ sym (ap (λ (r : Ran). then_run r (running (at + length xs) ys)) (running_some at xs m some))
 
-splits : (n at : ℕ) (xs ys m : List ℕ) → length xs ≤ n → first_cut LongTlv xs 0 ≡ Nothing → Splits at xs ys m
+splits : (n at : ℕ) (xs ys m : List ℕ) → length xs ≤ n → first_cut LongTlv xs 0 ≡ Ok tt → Splits at xs ys m
 splits zero at xs ys m h uncut = splits_none at xs ys m (omega arith)
 splits (suc n) at xs ys m h uncut =
     ⊎_elim (λ e. splits_none at xs ys m e)

@@ -1,19 +1,17 @@
 -- What is proved of comparing two NAKs, beside the promise of `differ`.
-use Rattle.std.specs.Prelude.{ℕ, ◌*◌, ◌≤◌, ◌≡◌, Bool, true, false, not, ◌&&◌, ◌||◌, List, [], ◌∷◌, ◌++◌, leb, ltb, eqb, length, drop}
+use Rattle.std.specs.Prelude.{ℕ, ◌*◌, ◌≤◌, ◌≡◌, Bool, true, false, not, ◌&&◌, ◌||◌, List, [], ◌∷◌, ◌++◌, leb, ltb, eqb, length, drop, Ok, Err}
 use Rattle.fields.specs.declared.refusal.Refusal.{Refusal}
-use Rattle.fields.specs.Answer.{accepted}
+use Rattle.fields.specs.Answer.{accepted, answer_of}
 use Rattle.fields.specs.BigEndian.{Bytes}
 use Rattle.fields.specs.Staged.{run}
 use Rattle.nak.specs.declared.Nak.{Nak}
 use Rattle.nak.specs.Reading.{reading_nak}
 use Rattle.ranges.specs.declared.differ.Differences.{Differences}
-use Rattle.ranges.specs.declared.differ.DifferResult.{DifferResult}
-use Rattle.ranges.specs.declared.differ.DifferResult.TheVariants.{Found, Refused}
 use Rattle.ranges.specs.Runs.{Run, range, ApartFrom}
 use Rattle.ranges.specs.Pairs.{asks}
 use Rattle.ranges.specs.Laying.{flat}
 use Rattle.ranges.specs.Order.{metadata}
-use Rattle.ranges.specs.Differing.{requests_in, differ_answer, differing, differ_memory}
+use Rattle.ranges.specs.Differing.{requests_in, differing, differ_memory}
 
 -- ---- the definition of the ranges, believed
 
@@ -54,12 +52,8 @@ pub record Told (s t lent : List ℕ) (d : Differences) : Type 0 where
   pub differ : DifferIn (requests_in nak₁ s) (requests_in nak₂ t) ranges
 
 abbrev pub FoundTells : Type 0
-FoundTells = (s t lent : List ℕ) (d : Differences) → Bytes s → Bytes t → differ_answer (Found d) ≡ differing s t (length lent) → Told s t lent d
+FoundTells = (s t lent : List ℕ) (d : Differences) → Bytes s → Bytes t → answer_of (Ok d) ≡ differing s t (length lent) → Told s t lent d
 
 -- a refused call changes none of the lent numbers
 abbrev pub RefusedLeaves : Type 0
-RefusedLeaves = (s t lent : List ℕ) (r : Refusal) → differ_answer (Refused r) ≡ differing s t (length lent) → differ_memory s t lent ≡ lent
-
--- the promise leaves one answer
-abbrev pub OneDifferResult : Type 0
-OneDifferResult = (a b : DifferResult) → differ_answer a ≡ differ_answer b → a ≡ b
+RefusedLeaves = (s t lent : List ℕ) (r : Refusal) → answer_of (Err r) ≡ differing s t (length lent) → differ_memory s t lent ≡ lent

@@ -1,15 +1,12 @@
 -- Two NAKs beside each other (document 02, C-03): 'which bytes only one asked for'.
 use Rattle.std.specs.Prelude.{ℕ, ◌/◌, Bool, true, not, List, [], ◌∷◌, ltb, eqb, length}
-use Rattle.fields.specs.Answer.{Answer, accepted, told, and_then, Test, when, first_of, leaves}
-use Rattle.fields.specs.Refusal.{paper}
+use Rattle.fields.specs.Answer.{Answer, accepted, and_then, Test, when, first_of, leaves}
 use Rattle.fields.specs.Staged.{run}
 use Rattle.nak.specs.declared.Nak.{Nak}
 use Rattle.nak.specs.Reading.{reading_nak}
 use Rattle.nak.specs.Requests.{area_of, pairs_of}
 use Rattle.ranges.specs.declared.merge.Rule.TheVariants.{Differ}
 use Rattle.ranges.specs.declared.differ.Differences.{Differences}
-use Rattle.ranges.specs.declared.differ.DifferResult.{DifferResult}
-use Rattle.ranges.specs.declared.differ.DifferResult.TheVariants.{Found, Refused}
 use Rattle.ranges.specs.Runs.{Run}
 use Rattle.ranges.specs.Merging.{merged}
 use Rattle.ranges.specs.Laying.{flat}
@@ -70,10 +67,6 @@ counted c = record { first = c.first; second = c.second; ranges = length c.range
 -- the ranges 'into lent numbers, three for each: start, end, side'
 abbrev pub threes : Compared → List ℕ
 threes c = flat true c.ranges
-
-abbrev pub differ_answer : DifferResult → Answer Differences
-differ_answer (Found d) = accepted d
-differ_answer (Refused r) = told (paper r)
 
 unfoldable pub differing : List ℕ → List ℕ → ℕ → Answer Differences
 differing s t room = and_then (comparing s t room) (λ c. accepted (counted c))

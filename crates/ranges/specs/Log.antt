@@ -1,5 +1,5 @@
 -- The log (document 02, C-13): 'tagged fields: one-byte tag, two-byte big-endian length, contents'. Its entries one by one, in the order of the document's refusals, and a run over them.
-use Rattle.std.specs.Prelude.{ℕ, zero, suc, ◌+◌, ◌&&◌, List, [], ◌∷◌, eqb, length, drop, if◌then◌else◌}
+use Rattle.std.specs.Prelude.{ℕ, zero, suc, ◌+◌, ◌&&◌, List, [], ◌∷◌, eqb, length, drop, if◌then◌else◌, Result, Ok, Err}
 use Rattle.fields.specs.BigEndian.{number_at}
 use Rattle.fields.specs.Answer.{Answer, accepted, short, refused, told, and_then}
 use Rattle.fields.specs.Refusal.{paper}
@@ -8,13 +8,10 @@ use Rattle.nak.specs.declared.Nak.{Nak}
 use Rattle.nak.specs.Reading.{reading_nak}
 use Rattle.nak.specs.Requests.{area_of, pairs_of}
 use Rattle.tlv.specs.declared.Form.TheVariants.{LongTlv}
-use Rattle.tlv.specs.declared.read.FieldResult.{FieldResult}
-use Rattle.tlv.specs.declared.read.FieldResult.TheVariants.{Field as Whole, Cut}
+use Rattle.tlv.specs.declared.Field.{Field}
+use Rattle.tlv.specs.declared.Cut.{Cut}
 use Rattle.tlv.specs.Reading.{stop_at, field_in, value_of}
-use Rattle.ranges.specs.declared.owed.EntryResult.{EntryResult}
-use Rattle.ranges.specs.declared.owed.EntryResult.TheVariants.{Taken, Refused}
-use Rattle.ranges.specs.declared.owed.RunResult.{RunResult}
-use Rattle.ranges.specs.declared.owed.RunResult.TheVariants.{End, Refused as Stopped}
+use Rattle.ranges.specs.declared.owed.Stopped.{Stopped}
 use Rattle.ranges.specs.Owing.{Entry, heard, resent, State, judging}
 use Rattle.ranges.specs.Memory.{state_in, is_state, memory_of}
 
@@ -36,9 +33,9 @@ contents_of at tag c =
     else if eqb tag 2 && eqb (length c) 16 then accepted (resent_of c) else refused (26 ∷ at ∷ [])
 
 -- '26 entry cut'
-abbrev pub entry_in : ℕ → List ℕ → FieldResult → Answer Entry
-entry_in at s (Whole f) = contents_of at f.tag (value_of f s)
-entry_in at s (Cut place) = refused (26 ∷ at ∷ [])
+abbrev pub entry_in : ℕ → List ℕ → Result Field Cut → Answer Entry
+entry_in at s (Ok f) = contents_of at f.tag (value_of f s)
+entry_in at s (Err cut) = refused (26 ∷ at ∷ [])
 
 -- the entry that stands there
 unfoldable pub reading_entry : ℕ → List ℕ → Answer Entry
@@ -57,11 +54,6 @@ abbrev pub left_by : Answer State → List ℕ → List ℕ
 left_by (accepted s) m = memory_of s
 left_by (short l n) m = m
 left_by (refused ns) m = m
-
--- the code's answer in document 01's terms
-abbrev pub entry_answer : EntryResult → Answer ℕ
-entry_answer (Taken n) = accepted n
-entry_answer (Refused r) = told (paper r)
 
 -- what is answered of an entry: how many bytes it has, or its refusal
 unfoldable pub entry_taken : ℕ → List ℕ → List ℕ → Answer ℕ
@@ -97,6 +89,6 @@ unfoldable pub running : ℕ → List ℕ → List ℕ → Ran
 running at s m = run_for (length s) at s m
 
 -- the code's answer in document 01's terms, and the offset
-abbrev pub stop_answer : RunResult → Answer (Unit {0}) × ℕ
-stop_answer (End at) = (accepted tt, at)
-stop_answer (Stopped r at) = (told (paper r), at)
+abbrev pub stop_answer : Result ℕ Stopped → Answer (Unit {0}) × ℕ
+stop_answer (Ok at) = (accepted tt, at)
+stop_answer (Err s) = (told (paper s.refusal), s.at)

@@ -1,7 +1,6 @@
 -- A state in memory that the caller lends, 516 numbers: the ranges, start and end by turns; from place 512 on how many there are, 1 once there is a first NAK, its source and its sequence number.
-use Rattle.std.specs.Prelude.{ℕ, ◌-◌, ◌*◌, Bool, true, ◌&&◌, List, [], ◌∷◌, ◌++◌, leb, ltb, eqb, length, get_or, take, replicate, if◌then◌else◌}
+use Rattle.std.specs.Prelude.{ℕ, ◌-◌, ◌*◌, Bool, true, Option, Some, None, ◌&&◌, List, [], ◌∷◌, ◌++◌, leb, ltb, eqb, length, get_or, take, replicate, if◌then◌else◌}
 use Rattle.ranges.specs.declared.owed.FirstNak.{FirstNak}
-use Rattle.ranges.specs.declared.owed.FirstNak.TheVariants.{Nak as First, Nothing}
 use Rattle.ranges.specs.Pairs.{twos}
 use Rattle.ranges.specs.Owing.{State, most}
 
@@ -20,8 +19,8 @@ abbrev pub ranges_in : List ℕ → List (ℕ × ℕ)
 ranges_in m = twos (take (2 * get_or m count_at 0) m)
 
 -- a first NAK, unless its place has 0
-unfoldable pub first_in : List ℕ → FirstNak
-first_in m = if eqb (get_or m 513 0) 0 then Nothing else First (get_or m 514 0) (get_or m 515 0)
+unfoldable pub first_in : List ℕ → Option FirstNak
+first_in m = if eqb (get_or m 513 0) 0 then None else Some (record { source = get_or m 514 0; sequence = get_or m 515 0 })
 
 -- both
 unfoldable pub state_in : List ℕ → State
@@ -39,9 +38,9 @@ is_state m = leb (get_or m count_at 0) most && rises 0 (ranges_in m)
 -- ---- the memory of a state
 
 -- 1 and a first NAK, or zeros
-abbrev pub first_numbers : FirstNak → List ℕ
-first_numbers (First source sequence) = 1 ∷ source ∷ sequence ∷ []
-first_numbers Nothing = 0 ∷ 0 ∷ 0 ∷ []
+abbrev pub first_numbers : Option FirstNak → List ℕ
+first_numbers (Some f) = 1 ∷ f.source ∷ f.sequence ∷ []
+first_numbers None = 0 ∷ 0 ∷ 0 ∷ []
 
 -- pairs as numbers, start and end by turns
 abbrev pub pair_numbers : List (ℕ × ℕ) → List ℕ

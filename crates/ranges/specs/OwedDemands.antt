@@ -1,17 +1,15 @@
 -- What is proved of the log (document 02, C-13), beside the promises of the functions.
-use Rattle.std.specs.Prelude.{ℕ, zero, suc, ◌+◌, ◌≤◌, ◌<◌, ◌≡◌, Bool, true, false, List, [], ◌∷◌, ◌++◌, ltb, length, drop, replicate, if◌then◌else◌}
+use Rattle.std.specs.Prelude.{ℕ, zero, suc, ◌+◌, ◌≤◌, ◌<◌, ◌≡◌, Bool, true, false, Option, List, [], ◌∷◌, ◌++◌, ltb, length, drop, replicate, if◌then◌else◌, Result, Ok}
 use Rattle.fields.specs.Answer.{Answer, accepted, short, refused}
 use Rattle.tlv.specs.declared.Form.TheVariants.{LongTlv}
-use Rattle.tlv.specs.declared.walk.FirstCut.TheVariants.{Nothing}
 use Rattle.tlv.specs.Walking.{first_cut}
 use Rattle.ranges.specs.declared.owed.FirstNak.{FirstNak}
-use Rattle.ranges.specs.declared.owed.EntryResult.{EntryResult}
-use Rattle.ranges.specs.declared.owed.RunResult.{RunResult}
+use Rattle.ranges.specs.declared.owed.Stopped.{Stopped}
 use Rattle.ranges.specs.Pairs.{asks}
 use Rattle.ranges.specs.Merging.{largest}
 use Rattle.ranges.specs.Owing.{Entry, heard, resent, owes, ranges_of, State, fresh, most, differs, after, judging}
 use Rattle.ranges.specs.Memory.{state_size, ranges_in, is_state, memory_of}
-use Rattle.ranges.specs.Log.{reading_entry, entry_size, entering, entry_answer, Ran, running, stop_answer}
+use Rattle.ranges.specs.Log.{reading_entry, entry_size, entering, Ran, running, stop_answer}
 
 -- the memory before the first entry: zeros
 abbrev pub fresh_memory : List ℕ
@@ -65,13 +63,13 @@ StateAgain = (at : ℕ) (s m : List ℕ) (t : State) → entering at s m ≡ acc
 -- ---- 'room given up is used again'
 
 -- a state of those ranges
-abbrev pub holding : List (ℕ × ℕ) → FirstNak → State
+abbrev pub holding : List (ℕ × ℕ) → Option FirstNak → State
 holding ps f = record { ranges = ps; first = f }
 
 -- 256 ranges of the bytes g are owed, among them p: p is resent, and a NAK of the transaction that asks for any other range is taken
 abbrev pub RoomIsUsedAgain : Type 0
 RoomIsUsedAgain =
-    (g : ℕ → Bool) (f : FirstNak) (ps qs : List (ℕ × ℕ)) (p q : ℕ × ℕ) (at next source sequence : ℕ)
+    (g : ℕ → Bool) (f : Option FirstNak) (ps qs : List (ℕ × ℕ)) (p q : ℕ × ℕ) (at next source sequence : ℕ)
     → ranges_of g ≡ ps ++ (p ∷ qs) → length (ranges_of g) ≡ most → q.0 < q.1 → q.1 ≤ largest → differs f source sequence ≡ false
     → (judging (holding (ranges_of g) f) at (resent p) ≡ accepted (holding (ps ++ qs) f))
     × (judging (holding (ps ++ qs) f) next (heard source sequence (q ∷ [])) ≡ accepted (after (holding (ps ++ qs) f) (heard source sequence (q ∷ []))))
@@ -91,13 +89,10 @@ then_run r more = on_end r.stop.0 r more
 -- split between entries, the parts run one behind the other give the same, whatever the memory holds
 abbrev pub SplitsBetweenEntries : Type 0
 SplitsBetweenEntries =
-    (at : ℕ) (xs ys m : List ℕ) → first_cut LongTlv xs 0 ≡ Nothing
+    (at : ℕ) (xs ys m : List ℕ) → first_cut LongTlv xs 0 ≡ Ok tt
     → running at (xs ++ ys) m ≡ then_run (running at xs m) (running (at + length xs) ys)
 
 -- ---- 'How much each promise says': the answers leave one value
 
-abbrev pub OneEntryResult : Type 0
-OneEntryResult = (a b : EntryResult) → entry_answer a ≡ entry_answer b → a ≡ b
-
 abbrev pub OneRunResult : Type 0
-OneRunResult = (a b : RunResult) → stop_answer a ≡ stop_answer b → a ≡ b
+OneRunResult = (a b : Result ℕ Stopped) → stop_answer a ≡ stop_answer b → a ≡ b

@@ -1,28 +1,23 @@
 -- What the functions of the log promise each other. No public promise cites this file.
-use Rattle.std.specs.Prelude.{ℕ, ◌*◌, List, [], ◌∷◌, take, drop, set}
+use Rattle.std.specs.Prelude.{ℕ, Option, Some, None, List, [], ◌∷◌, set}
 use Rattle.fields.specs.Answer.{Answer, accepted, and_then, first_of}
 use Rattle.fields.specs.Staged.{run}
 use Rattle.nak.specs.Reading.{reading_nak}
 use Rattle.ranges.specs.declared.merge.Rule.{Rule}
 use Rattle.ranges.specs.declared.owed.FirstNak.{FirstNak}
-use Rattle.ranges.specs.declared.owed.FirstNak.TheVariants.{Nak as First, Nothing}
-use Rattle.ranges.specs.Pairs.{twos, spans}
+use Rattle.ranges.specs.Pairs.{spans}
 use Rattle.ranges.specs.Merging.{merged}
 use Rattle.ranges.specs.Owing.{State, too_many, judging}
 use Rattle.ranges.specs.Memory.{count_at, ranges_in, state_in}
 use Rattle.ranges.specs.Log.{heard_of, resent_of, contents_of}
 
--- the pairs that so many ranges of a memory are
-abbrev pub kept : List ℕ → ℕ → List (ℕ × ℕ)
-kept m count = twos (drop 0 (take (2 * count) m))
-
 -- a memory with a count and a first NAK behind its ranges; where there is none, zeros stay zeros
-abbrev pub head_put : List ℕ → ℕ → FirstNak → List ℕ
-head_put m n (First source sequence) = set (set (set (set m count_at n) 513 1) 514 source) 515 sequence
-head_put m n Nothing = set m count_at n
+abbrev pub head_put : List ℕ → ℕ → Option FirstNak → List ℕ
+head_put m n (Some f) = set (set (set (set m count_at n) 513 1) 514 f.source) 515 f.sequence
+head_put m n None = set m count_at n
 
 -- the memory's ranges merged with an entry's pairs: 27, or the new state
-unfoldable pub owing_with : Rule → FirstNak → List (ℕ × ℕ) → List ℕ → Answer State
+unfoldable pub owing_with : Rule → Option FirstNak → List (ℕ × ℕ) → List ℕ → Answer State
 owing_with rule first qs m =
     first_of
     (too_many (spans (merged rule (ranges_in m) qs)) ∷ [])

@@ -1,8 +1,7 @@
 -- What is owed (document 02, C-13): 'The bytes owed after a prefix of the log are those asked for by a NAK in it and not resent later in that prefix.' The state after entries is the longest ranges of those bytes.
-use Rattle.std.specs.Prelude.{ℕ, Bool, false, not, ◌&&◌, ◌||◌, List, [], ◌∷◌, ltb, eqb, length}
+use Rattle.std.specs.Prelude.{ℕ, Bool, false, Option, Some, None, not, ◌&&◌, ◌||◌, List, [], ◌∷◌, ltb, eqb, length}
 use Rattle.fields.specs.Answer.{Answer, Test, when, first_of}
 use Rattle.ranges.specs.declared.owed.FirstNak.{FirstNak}
-use Rattle.ranges.specs.declared.owed.FirstNak.TheVariants.{Nak as First, Nothing}
 use Rattle.ranges.specs.Runs.{runs}
 use Rattle.ranges.specs.Pairs.{asks, spans, in_or_not}
 use Rattle.ranges.specs.Merging.{largest}
@@ -52,23 +51,23 @@ ranges_of g = spans (runs (in_or_not g) 0 largest)
 -- the ranges that are owed, and 'the log's first NAK', once there is one
 pub record State : Type 0 where
   pub ranges : List (ℕ × ℕ)
-  pub first : FirstNak
+  pub first : Option FirstNak
 
 -- before the first entry
 abbrev pub fresh : State
-fresh = record { ranges = []; first = Nothing }
+fresh = record { ranges = []; first = None }
 
 -- 'at most 256 ranges'
 abbrev pub most : ℕ
 most = 256
 
 -- the first NAK, once one of that source and sequence number was taken
-unfoldable pub first_after : FirstNak → ℕ → ℕ → FirstNak
-first_after (First source sequence) s q = First source sequence
-first_after Nothing s q = First s q
+unfoldable pub first_after : Option FirstNak → ℕ → ℕ → Option FirstNak
+first_after (Some f) s q = Some f
+first_after None s q = Some (record { source = s; sequence = q })
 
 -- the same of an entry: a resent range has no transaction
-abbrev pub first_with : FirstNak → Entry → FirstNak
+abbrev pub first_with : Option FirstNak → Entry → Option FirstNak
 first_with f (heard source sequence ps) = first_after f source sequence
 first_with f (resent p) = f
 
@@ -82,12 +81,12 @@ in_order (heard source sequence ps) = eqb (disorder ps) 0
 in_order (resent p) = ltb p.0 p.1
 
 -- 19 'against the log's first NAK', in source or sequence number
-unfoldable pub differs : FirstNak → ℕ → ℕ → Bool
-differs (First source sequence) s q = not (eqb source s && eqb sequence q)
-differs Nothing s q = false
+unfoldable pub differs : Option FirstNak → ℕ → ℕ → Bool
+differs (Some f) s q = not (eqb f.source s && eqb f.sequence q)
+differs None s q = false
 
 -- the same of an entry
-abbrev pub differs_from : FirstNak → Entry → Bool
+abbrev pub differs_from : Option FirstNak → Entry → Bool
 differs_from f (heard source sequence ps) = differs f source sequence
 differs_from f (resent p) = false
 

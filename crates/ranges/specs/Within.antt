@@ -1,20 +1,22 @@
 -- What the functions of this crate promise each other, by the definitions of the other files. No public promise cites this file.
-use Rattle.std.specs.Prelude.{ℕ, ◌+◌, ◌-◌, ◌*◌, ◌/◌, Bool, List, [], ◌∷◌, leb, ltb, eqb, length, drop, if◌then◌else◌}
+use Rattle.std.specs.Prelude.{ℕ, ◌+◌, ◌*◌, ◌/◌, ◌≡◌, Bool, false, Option, Some, None, Result, Ok, Err, List, [], ◌∷◌, leb, ltb, eqb, length, if◌then◌else◌}
 use Rattle.std.proofs.lemmas.List.Edits.{sets}
+use Rattle.fields.specs.declared.refusal.Refusal.{Refusal}
+use Rattle.fields.specs.declared.refusal.Refusal.TheVariants.{PairOutOfOrder}
 use Rattle.fields.specs.Answer.{Answer, and_then}
 use Rattle.fields.specs.Staged.{run}
-use Rattle.header.specs.declared.flags.LargeFileFlag.{LargeFileFlag}
-use Rattle.header.specs.Size.{size_width}
-use Rattle.nak.specs.Nak.{pair_size}
 use Rattle.nak.specs.declared.Nak.{Nak}
+use Rattle.nak.specs.declared.iter.SegmentRequestIter.{SegmentRequestIter}
 use Rattle.nak.specs.Reading.{reading_nak}
-use Rattle.nak.specs.Requests.{pairs_from}
+use Rattle.nak.specs.Requests.{pairs_left}
 use Rattle.ranges.specs.declared.side.Source.{Source}
 use Rattle.ranges.specs.declared.side.Source.TheVariants.{Area, Numbers}
+use Rattle.ranges.specs.declared.side.Side.{Side}
+use Rattle.ranges.specs.declared.order.Asked.{Asked}
 use Rattle.ranges.specs.declared.tape.Open.{Open}
 use Rattle.ranges.specs.Runs.{Run, range}
 use Rattle.ranges.specs.Pairs.{twos}
-use Rattle.ranges.specs.Order.{metadata}
+use Rattle.ranges.specs.Order.{metadata, others, disorder}
 use Rattle.ranges.specs.Merging.{largest}
 use Rattle.ranges.specs.Laying.{wide, numbers_of}
 use Rattle.ranges.specs.Transaction.{same_transaction}
@@ -22,34 +24,54 @@ use Rattle.ranges.specs.Differing.{Compared, requests_in, comparing_pairs}
 
 -- ---- where pairs stand
 
--- the whole pairs of a request area, from a byte of it on
-unfoldable pub area_pairs : LargeFileFlag → List ℕ → ℕ → List (ℕ × ℕ)
-area_pairs file area at = pairs_from (size_width file) area at ((length area - at) / pair_size file)
+-- those that the reader of an area has before it
+abbrev pub requests_ahead : SegmentRequestIter → List (ℕ × ℕ)
+requests_ahead r = pairs_left r.area.now r.file r.cursor.at
 
--- the pairs of a source, from a place in it on: a byte of an area, or a number of lent ones
-abbrev pub pairs_in : Source → List ℕ → List ℕ → ℕ → List (ℕ × ℕ)
-pairs_in (Area file) area numbers at = area_pairs file area at
-pairs_in Numbers area numbers at = twos (drop at numbers)
+-- the pairs of a source that are still to come
+abbrev pub pairs_in : Source → List (ℕ × ℕ)
+pairs_in (Area requests) = requests_ahead requests
+pairs_in (Numbers numbers) = twos numbers.now
 
--- where the pairs behind the metadata pair begin in an area whose pairs have that many bytes
-abbrev pub begin_at : ℕ → List (ℕ × ℕ) → ℕ
-begin_at size ps = if metadata ps then size else 0
+-- the number of the first pair out of order, or none: then the answer of `out_of_order` is 0
+abbrev pub number_or_none : Option ℕ → ℕ → Type 0
+number_or_none None w = w ≡ 0
+number_or_none (Some i) w = (i ≡ w) × (w ≡ 0 → ⊥)
+
+-- what an area's pairs ask for, where all but the metadata pair rise; or the number of the first out of order
+abbrev pub AsksOrWrong : Result Asked ℕ → List (ℕ × ℕ) → Type 0
+AsksOrWrong (Ok a) ps = (a.metadata ≡ metadata ps) × (pairs_in a.others ≡ others ps) × (disorder ps ≡ 0)
+AsksOrWrong (Err i) ps = (i ≡ disorder ps) × (disorder ps ≡ 0 → ⊥)
+
+-- the same of one file beside another, which the refusal names
+abbrev pub AsksOrRefused : ℕ → Result Asked Refusal → List (ℕ × ℕ) → Type 0
+AsksOrRefused file (Ok a) ps = AsksOrWrong (Ok a) ps
+AsksOrRefused file (Err e) ps = (e ≡ PairOutOfOrder file (disorder ps)) × (disorder ps ≡ 0 → ⊥)
 
 -- ---- two lists walked together
 
--- the pairs, or where there is none a pair at the end of all offsets, which asks for no byte
-abbrev pub or_end : List (ℕ × ℕ) → List (ℕ × ℕ)
-or_end [] = (largest, largest) ∷ []
-or_end (p ∷ ps) = p ∷ ps
+-- the pair that a side looks at, and those behind it
+abbrev pub in_line : Option (ℕ × ℕ) → List (ℕ × ℕ) → List (ℕ × ℕ)
+in_line (Some p) ps = p ∷ ps
+in_line None ps = []
 
--- where a side changes next, seen from a place before its pair's end
-abbrev pub edge : ℕ → ℕ → ℕ → ℕ
-edge at from to = if leb from at then to else from
+abbrev pub ahead : Side → List (ℕ × ℕ)
+ahead s = in_line s.pair (pairs_in s.rest)
 
--- a side at a place that its pair's end may be: behind that end the next pair is taken
+-- where a side changes next, seen from a place before its first pair's end; with no pair left, at the end of all offsets
+abbrev pub edge : ℕ → List (ℕ × ℕ) → ℕ
+edge at [] = largest
+edge at (p ∷ ps) = if leb p.0 at then p.1 else p.0
+
+-- whether its first pair asks for the byte at such a place
+abbrev pub begun : ℕ → List (ℕ × ℕ) → Bool
+begun at [] = false
+begun at (p ∷ ps) = leb p.0 at
+
+-- a side at a place that its first pair's end may be: behind that end the next pair is taken
 abbrev pub passed : ℕ → List (ℕ × ℕ) → List (ℕ × ℕ)
 passed at [] = []
-passed at (p ∷ ps) = if eqb p.1 at then or_end ps else p ∷ ps
+passed at (p ∷ ps) = if eqb p.1 at then ps else p ∷ ps
 
 -- ---- ranges stored
 

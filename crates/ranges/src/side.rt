@@ -1,106 +1,88 @@
-// One side of a merge: a list of pairs that stands in the bytes of a request area or in lent numbers, and the pair that comes next.
-ghost use Rattle.std.specs.Prelude.{◌≡◌, ◌∷◌, ◌≤◌, drop, leb};
-ghost use Rattle.ranges.specs.Pairs.{twos};
+// One side of a merge: pairs that stand in the bytes of a request area or in lent numbers, and the one of them that comes next.
+ghost use Rattle.std.specs.Iterator.{YieldsFirst, item_count};
+ghost use Rattle.std.specs.Prelude.{◌≡◌, ◌≤◌};
 ghost use Rattle.ranges.specs.Merging.{largest};
-ghost use Rattle.ranges.specs.Within.{area_pairs, pairs_in, or_end, edge, passed};
+ghost use Rattle.ranges.specs.Within.{pairs_in, ahead, edge, begun, passed};
 
-use header::LargeFileFlag;
-use nak::requests::{NextRequest, RequestCursor};
+use nak::iter::SegmentRequestIter;
 
-// The end of all offsets.
-pub const LARGEST: u64 = 18446744073709551615;
-
-// Where a list of pairs stands. There are two slices for each side, and the other one is not looked at.
+// The pairs that are still to come.
 #[derive(Clone, Copy)]
-pub enum Source {
-    Area(LargeFileFlag),
-    Numbers,
+pub enum Source<'a> {
+    Area(SegmentRequestIter<'a>),
+    Numbers(&'a [u64]),
 }
 
-// A pair, and where the pairs behind it stand. Behind the last pair both numbers are LARGEST.
-#[derive(Clone, Copy)]
-pub struct Side {
-    pub from: u64,
-    pub to: u64,
-    pub next: usize,
-}
+impl<'a> Iterator for Source<'a> {
+    type Item = (u64, u64);
 
-fn end_of(at: usize) -> Side
-    ensures { result ≡ record { from = largest; to = largest; next = at } }
-{
-    Side {
-        from: LARGEST,
-        to: LARGEST,
-        next: at,
-    }
-}
+    ghost next_gives = { YieldsFirst pairs_in };
 
-fn in_area(area: &[u8], file: LargeFileFlag, at: usize) -> Side
-    ensures { (result.from, result.to) ∷ area_pairs file area.now result.next ≡ or_end (area_pairs file area.now at) }
-{
-    let cursor = RequestCursor { at };
-    let found = cursor.next(area, file);
-    match found {
-        NextRequest::Pair { start, end, next } => Side {
-            from: start,
-            to: end,
-            next: next.at,
-        },
-        NextRequest::End => end_of(at),
-    }
-}
+    ghost remaining = { item_count pairs_in };
 
-fn in_numbers(numbers: &[u64], at: usize) -> Side
-    ensures { (result.from, result.to) ∷ twos (drop result.next numbers.now) ≡ or_end (twos (drop at numbers.now)) }
-{
-    if numbers.len() < at {
-        return end_of(at);
-    }
-    if numbers.len() - at < 2 {
-        return end_of(at);
-    }
-    Side {
-        from: numbers[at],
-        to: numbers[at + 1],
-        next: at + 2,
-    }
-}
-
-// The pair that stands at a place of a source.
-pub(crate) fn side_at(area: &[u8], numbers: &[u64], source: Source, at: usize) -> Side
-    ensures { (result.from, result.to) ∷ pairs_in source area.now numbers.now result.next ≡ or_end (pairs_in source area.now numbers.now at) }
-{
-    match source {
-        Source::Area(file) => in_area(area, file, at),
-        Source::Numbers => in_numbers(numbers, at),
-    }
-}
-
-impl Side {
-    // Where this side changes next, seen from a place before its pair's end.
-    pub(crate) fn edge(self, at: u64) -> u64
-        ensures { (result ≡ edge at self.from self.to) × (result ≤ largest) }
-    {
-        if self.from <= at {
-            return self.to;
+    #[inline]
+    fn next(&mut self) -> Option<(u64, u64)> {
+        match self {
+            Source::Area(requests) => requests.next(),
+            Source::Numbers(numbers) => {
+                let [from, to, rest @ ..] = *numbers else {
+                    return None;
+                };
+                *numbers = rest;
+                Some((*from, *to))
+            }
         }
-        self.from
+    }
+}
+
+// A pair, unless all are behind, and those behind it.
+#[derive(Clone, Copy)]
+pub struct Side<'a> {
+    pub pair: Option<(u64, u64)>,
+    pub rest: Source<'a>,
+}
+
+impl<'a> Side<'a> {
+    pub(crate) fn new(source: Source<'a>) -> Side<'a>
+        ensures { ahead result ≡ pairs_in source.entry }
+    {
+        let mut rest = source;
+        let pair = rest.next();
+        Side { pair, rest }
+    }
+
+    // Where this side changes next, seen from a place before its pair's end.
+    #[inline]
+    pub(crate) fn edge(&self, at: u64) -> u64
+        ensures { (result ≡ edge at (ahead self.now)) × (result ≤ largest) }
+    {
+        match self.pair {
+            Some((from, to)) => if from <= at { to } else { from },
+            None => u64::MAX,
+        }
     }
 
     // Whether this side asks for the byte at such a place.
-    pub(crate) fn asks(self, at: u64) -> bool
-        ensures { result ≡ leb self.from at }
+    #[inline]
+    pub(crate) fn asks(&self, at: u64) -> bool
+        ensures { result ≡ begun at (ahead self.now) }
     {
-        self.from <= at
+        match self.pair {
+            Some((from, _)) => from <= at,
+            None => false,
+        }
     }
 
     // At a place that may be the pair's end: there the next pair is taken.
-    pub(crate) fn passed(self, at: u64, area: &[u8], numbers: &[u64], source: Source) -> Side
-        ensures { (result.from, result.to) ∷ pairs_in source area.now numbers.now result.next ≡ passed at ((self.from, self.to) ∷ pairs_in source area.now numbers.now self.next) }
+    #[inline]
+    pub(crate) fn pass(&mut self, at: u64)
+        ensures { ahead self.new ≡ passed at (ahead self.old) }
     {
-        if self.to == at {
-            return side_at(area, numbers, source, self.next);
+        match self.pair {
+            Some((_, to)) if to == at => {
+                self.pair = self.rest.next();
+            }
+            _ => {}
         }
-        self
     }
 }

@@ -6,7 +6,9 @@ ghost use Rattle.ranges.specs.Laying.{wide};
 ghost use Rattle.ranges.specs.Within.{placed, closing, closed_into, turned_open, turned_into};
 
 // The range that is open: its first byte and its label, which is 0 where none is open; and how many ranges were closed before it.
-#[derive(Clone, Copy)]
+// Kept: an Option is no plainer, since it would have to say that no label in it is 0, which specs/Runs has for a byte in no range.
+// Kept: `out` and `labelled` stay beside it, since each method of a struct that held the `&mut` would have to say that it is still that one.
+#[derive(Clone, Copy, Debug, PartialEq, Eq)]
 pub struct Open {
     pub from: u64,
     pub label: u64,
@@ -20,6 +22,7 @@ fn width(labelled: bool) -> usize
 }
 
 // A range in the place of index `count`, if there is that place.
+#[tactic(auto, using(crate::proofs::Laying::place_fits))]
 fn place(out: &mut [u64], labelled: bool, count: usize, from: u64, to: u64, label: u64)
     ensures { out.new ≡ placed labelled out.old count (range from to label) }
 {
@@ -52,6 +55,7 @@ impl Open {
     }
 
     // From `at` on bytes have that label: the open range goes on, or ends here and another is open.
+    #[tactic(auto, unfolding(crate::specs::Within::turned_open, crate::specs::Within::turned_into))]
     pub(crate) fn turned(self, out: &mut [u64], labelled: bool, at: u64, label: u64) -> Open
         requires { self.count + closing self.label ≤ largest }
         ensures { (result ≡ turned_open self at label) × (out.new ≡ turned_into labelled out.old self at label) }

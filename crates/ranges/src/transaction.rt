@@ -4,11 +4,9 @@ ghost use Rattle.ranges.specs.Transaction.{same_transaction};
 
 use header::PduHeader;
 
+#[tactic(auto, unfolding(crate::specs::Transaction::same_transaction))]
 pub(crate) fn same_transaction(first: PduHeader, second: PduHeader) -> bool
     ensures { result ≡ same_transaction first second }
 {
-    if !first.source.eq(second.source) {
-        return false;
-    }
-    first.sequence.eq(second.sequence)
+    first.source == second.source && first.sequence == second.sequence
 }

@@ -7,7 +7,8 @@ use mathlib.Core.List.{List, [], ◌∷◌}
 use native.Mathlib.Omega.{arith}
 use lib.Dec.{ltb}
 use lib.ListN.{length, take, drop, length-take, length-set, take-append-drop}
-use Rattle.std.specs.Prelude.{if◌then◌else◌}
+use Rattle.std.specs.Prelude.{if◌then◌else◌, Option, None, Some, Result, Ok, Err}
+use Rattle.fields.specs.declared.refusal.Refusal.{Refusal}
 use Rattle.fields.specs.Answer.{Answer, accepted, short, refused}
 use Rattle.fields.specs.Staged.{run}
 use Rattle.fields.specs.Demand3.{Final}
@@ -17,8 +18,6 @@ use Rattle.nak.specs.declared.Nak.{Nak}
 use Rattle.nak.specs.Reading.{reading_nak}
 use Rattle.nak.proofs.Demands.{nak_demand3}
 use Rattle.receiver.specs.declared.Receiver.{Receiver}
-use Rattle.receiver.specs.declared.Outcome.{Outcome}
-use Rattle.receiver.specs.declared.Outcome.TheVariants.{More, Nak as Given, Refused}
 use Rattle.receiver.specs.Receiving.{window_length, receiving, status, put, begun, nak, refusal, outcome_of, Call, call}
 use Rattle.receiver.specs.Within.{capped}
 use Rattle.receiver.specs.Demands.{GivenStands, NeverOne, RefusalStays, OneReceived, OneTaken}
@@ -102,18 +101,16 @@ never_one r f ns e = let q = (call r f).leaves in refused_not_one (take q.filled
 pub refusal_stays : RefusalStays
 refusal_stays r f g ns e = call_refused (call r f).leaves g ns (refuses f r ns e)
 
--- ---- one answer
-
-outcome_one : (a b : Outcome) → outcome_of a ≡ outcome_of b → a ≡ b
-outcome_one More More e = refl
-outcome_one More (Given n) e = cc
-outcome_one More (Refused r) e = cc
-outcome_one (Given n) More e = cc
-outcome_one (Given n) (Given m) e = cc
-outcome_one (Given n) (Refused r) e = cc
-outcome_one (Refused r) More e = cc
-outcome_one (Refused r) (Given n) e = cc
-outcome_one (Refused r) (Refused q) e = let p : paper r ≡ paper q = cc in ap Refused (paper_one_to_one r q p)
+outcome_one : (a b : Result (Option Nak) Refusal) → outcome_of a ≡ outcome_of b → a ≡ b
+outcome_one (Ok None) (Ok None) e = refl
+outcome_one (Ok None) (Ok (Some n)) e = cc
+outcome_one (Ok None) (Err r) e = cc
+outcome_one (Ok (Some n)) (Ok None) e = cc
+outcome_one (Ok (Some n)) (Ok (Some m)) e = cc
+outcome_one (Ok (Some n)) (Err r) e = cc
+outcome_one (Err r) (Ok None) e = cc
+outcome_one (Err r) (Ok (Some n)) e = cc
+outcome_one (Err r) (Err q) e = let p : paper r ≡ paper q = cc in ap Err (paper_one_to_one r q p)
 
 pub one_received : OneReceived
 one_received a b v w e =

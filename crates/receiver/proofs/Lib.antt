@@ -1,7 +1,6 @@
 -- Laws of the definitions. The proof of a function stands in the folder of its name.
 pub mod Reading
 pub mod Window
-pub mod Storing
 pub mod Calls
 pub mod Cutting
 pub mod Shorts

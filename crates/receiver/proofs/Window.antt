@@ -7,30 +7,32 @@ use mathlib.Core.Bool.{Bool, true, false}
 use mathlib.Core.List.{List, [], ◌∷◌}
 use native.Mathlib.Omega.{arith}
 use lib.Dec.{ltb}
-use lib.ListN.{length, get_or, take, length-take}
+use lib.ListN.{length, take, length-take}
 use lib.Seq.{take_all}
 use borrow.Author.Tests.{ltb-true, ltb-false, lt-ltb, le-ltb}
+use Rattle.fields.specs.declared.refusal.Refusal.{Refusal}
+use Rattle.fields.specs.declared.refusal.Refusal.TheVariants.{FromSliceTooSmall}
+use Rattle.fields.specs.Refusal.{paper}
 use Rattle.fields.specs.Answer.{Answer, short, refused, told}
 use Rattle.fields.specs.Staged.{run}
-use Rattle.fields.proofs.Waiting.{told_one, told_other}
+use Rattle.fields.proofs.Judging.{told_is_short, told_other_refusal}
 use Rattle.nak.specs.declared.Nak.{Nak}
 use Rattle.nak.specs.Reading.{reading_nak}
 use Rattle.receiver.specs.Receiving.{window_length, receiving}
 use Rattle.receiver.specs.Within.{capped}
 use Rattle.receiver.proofs.Reading.{capped_reading}
 
--- ---- of a refusal's number and values
+-- ---- of a refusal
 
-module _ {A : Type 0} (ns : List ℕ) (k : ℕ) (number : k ≡ get_or ns 0 0) where
-  pub other_refusal : (k ≡ 1 → ⊥) → ◌≡◌ {A = Answer A} (refused ns) (capped (told ns))
-  other_refusal h = sym (ap capped (told_other ns (λ d. h (number ∙ d))))
+pub other_refusal : (r : Refusal) → ((found need : ℕ) → r ≡ FromSliceTooSmall found need → ⊥) → ◌≡◌ {A = Answer Nak} (refused (paper r)) (capped (told (paper r)))
+other_refusal r h = sym (ap capped (told_other_refusal r h))
 
-  module _ (one : k ≡ 1) (need : ℕ) (second : need ≡ get_or ns 2 0) where
-    pub above_window_lem : window_length < need → ◌≡◌ {A = Answer A} (refused (22 ∷ [])) (capped (told ns))
-    above_window_lem h = sym (ap capped (told_one ns (sym number ∙ one)) ∙ rw (← second, lt-ltb _ _ h))
+module _ (found need : ℕ) where
+  pub above_window_lem : window_length < need → ◌≡◌ {A = Answer Nak} (refused (22 ∷ [])) (capped (told (paper (FromSliceTooSmall found need))))
+  above_window_lem h = sym (ap capped (told_is_short found need) ∙ rw (lt-ltb _ _ h))
 
-    pub in_window : (found : ℕ) → found ≡ get_or ns 1 0 → need ≤ window_length → ◌≡◌ {A = Answer A} (short found need) (capped (told ns))
-    in_window found first h = sym (ap capped (told_one ns (sym number ∙ one)) ∙ rw (← second, le-ltb _ _ h, first))
+  pub in_window : need ≤ window_length → ◌≡◌ {A = Answer Nak} (short found need) (capped (told (paper (FromSliceTooSmall found need))))
+  in_window h = sym (ap capped (told_is_short found need) ∙ rw (le-ltb _ _ h))
 
 -- ---- of the window
 

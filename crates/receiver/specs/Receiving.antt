@@ -1,5 +1,6 @@
 -- A receiver 'that takes fragments of a stream of NAKs laid end to end' (document 02, C-07): its state, what the bytes in its window say, and a call with a fragment, a byte at a time.
-use Rattle.std.specs.Prelude.{ℕ, suc, List, [], ◌∷◌, ltb, take, set, replicate}
+use Rattle.std.specs.Prelude.{ℕ, suc, List, [], ◌∷◌, ltb, take, set, replicate, Option, None, Some, Result, Ok, Err}
+use Rattle.fields.specs.declared.refusal.Refusal.{Refusal}
 use Rattle.fields.specs.Answer.{Answer, accepted, short, refused, Test, when}
 use Rattle.fields.specs.Refusal.{paper}
 use Rattle.fields.specs.Staged.{Staged, ◌>>=◌, ◌>>◌, run, test}
@@ -11,8 +12,6 @@ use Rattle.nak.specs.Reading.{reading_nak}
 use Rattle.receiver.specs.declared.Receiver.{Receiver}
 use Rattle.receiver.specs.declared.Received.{Received}
 use Rattle.receiver.specs.declared.Taken.{Taken}
-use Rattle.receiver.specs.declared.Outcome.{Outcome}
-use Rattle.receiver.specs.declared.Outcome.TheVariants.{More, Nak as Given, Refused}
 
 -- 'a window of 2,048 bytes'
 abbrev pub window_length : ℕ
@@ -57,10 +56,10 @@ pub data Outcomes : Type 0 where
   nak : Nak → Outcomes
   refusal : List ℕ → Outcomes
 
-abbrev pub outcome_of : Outcome → Outcomes
-outcome_of More = more
-outcome_of (Given n) = nak n
-outcome_of (Refused r) = refusal (paper r)
+abbrev pub outcome_of : Result (Option Nak) Refusal → Outcomes
+outcome_of (Ok None) = more
+outcome_of (Ok (Some n)) = nak n
+outcome_of (Err r) = refusal (paper r)
 
 -- 'how many bytes it took', what it gives, and the state that it leaves
 pub record Call : Type 0 where

@@ -10,40 +10,34 @@ ghost use Rattle.receiver.specs.Receiving.{window_length, receiving, fresh, stat
 ghost use Rattle.receiver.specs.Within.{status_answer, capped, short_readings};
 
 use fields::Refusal;
-use nak::{Nak, NakResult};
+use nak::Nak;
 
 // The bytes of the window.
 pub const WINDOW_LEN: usize = 2048;
 
 // The state: a window, and how many bytes of the next PDU are in it. What is waited for, and what is refused, those bytes say; so every
 // value of both is a state that a call answers.
-#[derive(Clone, Copy)]
+// Kept: a window with a count beside it. It is document 02's state, and a type that ties the two would hold fewer states.
+#[derive(Clone, Copy, Debug, PartialEq, Eq)]
 pub struct Receiver {
-    pub window: [u8; 2048],
+    pub window: [u8; WINDOW_LEN],
     pub filled: usize,
 }
 
-// What a call gives. A NAK's bytes stand in the window until the next call, and its requests are walked there.
-#[derive(Clone, Copy)]
-pub enum Outcome {
-    More,
-    Nak(Nak),
-    Refused(Refusal),
-}
-
-// How many bytes a call took, what it gives, and how many bytes of the next PDU are then in the window.
-#[derive(Clone, Copy)]
+// How many bytes a call took, what it gives, and how many bytes of the next PDU are then in the window. It gives a NAK, nothing while more is
+// wanted, or a refusal. A NAK's bytes stand in the window until the next call, and its requests are walked there.
+#[derive(Clone, Copy, Debug, PartialEq, Eq)]
 pub struct Received {
     pub taken: usize,
-    pub outcome: Outcome,
+    pub outcome: Result<Option<Nak>, Refusal>,
     pub filled: usize,
 }
 
 // The same by value: with the state that is left.
-#[derive(Clone, Copy)]
+#[derive(Clone, Copy, Debug, PartialEq, Eq)]
 pub struct Taken {
     pub taken: usize,
-    pub outcome: Outcome,
+    pub outcome: Result<Option<Nak>, Refusal>,
     pub receiver: Receiver,
 }
 
@@ -55,6 +49,7 @@ struct Counted {
 }
 
 // What the bytes in the window say.
+// Kept: what is short is neither accepted nor refused, as in `Answer` of the definitions; a Result of an enum of the other two is no plainer.
 #[derive(Clone, Copy)]
 enum Status {
     Wants { found: usize, need: usize },
@@ -62,22 +57,17 @@ enum Status {
     Bad(Refusal),
 }
 
-fn least(a: usize, b: usize) -> usize
-    ensures { result ≡ min a b }
-{
-    if a < b { a } else { b }
-}
-
 // Of what the reader refuses, 1, that bytes are lacking, is waited for, and nothing else; it is 22 where they are more than the window's.
 fn refused(refusal: Refusal) -> Status
     ensures { status_answer result ≡ capped (told (paper refusal)) }
 {
-    let numbers = refusal.numbers();
-    if numbers.number != 1 {
+    let Refusal::FromSliceTooSmall {
+        found,
+        expected: need,
+    } = refusal
+    else {
         return Status::Bad(refusal);
-    }
-    let found = numbers.first as usize;
-    let need = numbers.second as usize;
+    };
     if WINDOW_LEN < need {
         return Status::Bad(Refusal::PduTooLarge);
     }
@@ -89,28 +79,31 @@ fn status_of(window: &[u8], filled: usize) -> Status
     requires { length window.now ≡ window_length }
     ensures { status_answer result ≡ run receiving (take filled window.now) }
 {
-    let end = least(filled, window.len());
+    let end = filled.min(window.len());
     let read = Nak::from_bytes(&window[..end]);
     match read {
-        NakResult::Nak(nak) => Status::Whole(nak),
-        NakResult::Refused(refusal) => refused(refusal),
+        Ok(nak) => Status::Whole(nak),
+        Err(refusal) => refused(refusal),
     }
 }
 
 // Bytes into the window, at a place that has room for them.
+// Kept: `copy` of tlv is the same. One that is public would have to test the room, or to ask for it, and here it is known.
+#[tactic(auto, using(fields::proofs::Parts::copied))]
 fn store(window: &mut [u8], at: usize, bytes: &[u8])
     requires { at + length bytes.now ≤ length window.old }
     ensures { window.new ≡ sets window.old at bytes.now }
 {
-    let mut i = 0;
-    while i < bytes.len() {
-        window[at + i] = bytes[i];
-        i += 1;
-    }
+    window[at..at + bytes.len()].copy_from_slice(bytes);
 }
 
 // The end of a call.
-fn ended(taken: usize, outcome: Outcome, filled: usize, shorts: usize) -> Counted
+fn ended(
+    taken: usize,
+    outcome: Result<Option<Nak>, Refusal>,
+    filled: usize,
+    shorts: usize,
+) -> Counted
     ensures { result ≡ record { received = record { taken = taken; outcome = outcome; filled = filled }; shorts = shorts } }
 {
     let received = Received {
@@ -132,11 +125,12 @@ fn receive_in(window: &mut [u8], filled: usize, fragment: &[u8]) -> Counted
     let mut at = filled;
     let mut taken = 0;
     let mut shorts = 0;
+    // Kept: no index is counted here. Each turn goes to the length that the reading names.
     loop {
         let said = status_of(window, at);
         match said {
-            Status::Whole(nak) => return ended(taken, Outcome::Nak(nak), 0, shorts),
-            Status::Bad(refusal) => return ended(taken, Outcome::Refused(refusal), at, shorts),
+            Status::Whole(nak) => return ended(taken, Ok(Some(nak)), 0, shorts),
+            Status::Bad(refusal) => return ended(taken, Err(refusal), at, shorts),
             Status::Wants { found: _, need } => {
                 shorts += 1;
                 let wanted = need - at;
@@ -144,7 +138,7 @@ fn receive_in(window: &mut [u8], filled: usize, fragment: &[u8]) -> Counted
                 if left < wanted {
                     let there = at + left;
                     store(window, at, &fragment[taken..]);
-                    return ended(fragment.len(), Outcome::More, there, shorts);
+                    return ended(fragment.len(), Ok(None), there, shorts);
                 }
                 let next = taken + wanted;
                 store(window, at, &fragment[taken..next]);

@@ -1,9 +1,6 @@
 // The parts of the replay list, read from standard input one behind the other. Behind its end all bytes are 0.
-ghost use Rattle.std.specs.Prelude.{◌≤◌};
-ghost use Rattle.io.specs.Counts.{IsPrefixLen};
-
+// Kept: `io::read_full` over the descriptor is the plainer: `std::io::Read` has no method that fills a buffer as far as it can.
 use crate::STDIN_FILENO;
-use fields::be;
 
 // The longest parts of the list: bytes or a lent buffer, numbers of 4 bytes, numbers of 8 bytes.
 pub const MOST_BYTES: usize = 65545;
@@ -12,99 +9,72 @@ pub const MOST_NORMAL: usize = 16380;
 
 pub const MOST_LARGE: usize = 8188;
 
+// A header as the list has it: its shape, the length of its data, and its identifiers.
+#[derive(Drop)]
+pub struct Header {
+    pub shape: [u8; 10],
+    pub length: u16,
+    pub ids: [u64; 3],
+}
+
 pub fn is_at_end() -> bool {
-    let mut b = [0u8; 1];
-    io::read_full(STDIN_FILENO, &mut b) == 0
+    io::read_full(STDIN_FILENO, &mut [0]) == 0
 }
 
-pub fn byte() -> u8 {
-    let mut b = [0u8; 1];
-    io::read_full(STDIN_FILENO, &mut b);
-    b[0]
-}
-
-pub fn two() -> u16 {
-    let mut b = [0u8; 2];
-    io::read_full(STDIN_FILENO, &mut b);
-    be::read_be(&b, 0, 2) as u16
-}
-
-pub fn four() -> u32 {
-    let mut b = [0u8; 4];
-    io::read_full(STDIN_FILENO, &mut b);
-    be::read_be(&b, 0, 4) as u32
-}
-
-pub fn eight() -> u64 {
-    let mut b = [0u8; 8];
-    io::read_full(STDIN_FILENO, &mut b);
-    be::read_be(&b, 0, 8)
-}
-
-pub fn shape() -> [u8; 10] {
-    let mut b = [0u8; 10];
+// So many bytes.
+fn array<const N: usize>() -> [u8; N] {
+    let mut b = [0; N];
     io::read_full(STDIN_FILENO, &mut b);
     b
 }
 
-// The length of a PDU's data is worked out where it is written: the list's is passed over.
-pub fn pdu_shape() -> [u8; 10] {
-    let shape = shape();
-    two();
-    shape
+pub fn byte() -> u8 {
+    u8::from_be_bytes(array())
 }
 
-pub fn ids() -> [u64; 3] {
-    [eight(), eight(), eight()]
+pub fn two() -> u16 {
+    u16::from_be_bytes(array())
 }
 
-// A count of elements, cut to what the array has: a list of its form asks for no more.
-fn count(most: usize) -> usize
-    ensures { result ≤ most }
-{
-    let n = four() as usize;
-    if n < most { n } else { most }
+pub fn four() -> u32 {
+    u32::from_be_bytes(array())
 }
 
-// A length of a part of the bytes, cut likewise.
-pub fn within(length: u32, s: &[u8]) -> usize
-    ensures { IsPrefixLen result s.now }
-{
-    let n = length as usize;
-    if n < s.len() { n } else { s.len() }
+pub fn eight() -> u64 {
+    u64::from_be_bytes(array())
 }
 
-// A length, then as many bytes, to the front of an array.
-pub fn bytes(into: &mut [u8]) -> usize
-    ensures { IsPrefixLen result into.new }
-{
-    let n = within(four(), into);
-    io::read_full(STDIN_FILENO, &mut into[..n]);
-    n
-}
-
-// A count, then as many numbers of 4 bytes.
-pub fn normal(into: &mut [u32]) -> usize
-    ensures { IsPrefixLen result into.new }
-{
-    let n = count(into.len());
-    let mut i = 0;
-    while i < n {
-        into[i] = four();
-        i += 1;
+impl Header {
+    // The length of a PDU's data is worked out where it is written: the list's is then passed over.
+    pub(crate) fn next() -> Header {
+        Header {
+            shape: array(),
+            length: two(),
+            ids: [eight(), eight(), eight()],
+        }
     }
-    n
 }
 
-// A count, then as many numbers of 8 bytes.
-pub fn large(into: &mut [u64]) -> usize
-    ensures { IsPrefixLen result into.new }
+// The front of an array, as long as the list says, and no longer than the array: a list of its form asks for no more.
+pub(crate) fn front<T>(all: &mut [T]) -> &mut [T] {
+    let n = all.len().min(four() as usize);
+    &mut all[..n]
+}
+
+// A length, then as many bytes.
+pub fn bytes(into: &mut [u8]) -> &[u8] {
+    let bytes = front(into);
+    io::read_full(STDIN_FILENO, bytes);
+    bytes
+}
+
+// A count, then as many numbers.
+pub(crate) fn numbers<T: Drop, F: Fn() -> T>(into: &mut [T], next: F) -> &[T]
+    requires { F.IsAlwaysCallable next }
 {
-    let n = count(into.len());
-    let mut i = 0;
-    while i < n {
-        into[i] = eight();
-        i += 1;
+    let numbers = front(into);
+    for number in numbers.iter_mut() {
+        *number = next();
     }
-    n
+    numbers
 }

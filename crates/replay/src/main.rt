@@ -1,8 +1,6 @@
 // Calls the library for each record of the replay list on standard input, and counts those whose answer it does not give.
 #![tactic(auto)]
 
-ghost use Rattle.std.specs.Prelude.{◌≤◌};
-
 mod directives;
 mod expected;
 mod headers;
@@ -13,25 +11,13 @@ mod naks;
 // The descriptor of standard input.
 const STDIN_FILENO: i32 = 0;
 
-// The descriptor of standard output.
-const STDOUT_FILENO: i32 = 1;
+const MOST_NAMED: u32 = 20;
 
-// The codes and the list's form stand in oracle/README.md.
-const MOST_CODE: u8 = 21;
-
-const MOST_NAMED: u64 = 20;
-
-// Whether a byte is the code of a function; behind the list's end it is 0.
-fn is_code(code: u8) -> bool {
-    if code == 0 {
-        return false;
-    }
-    code <= MOST_CODE
-}
-
-// Whether the library gives what the record says behind its code.
-fn replayed(code: u8) -> bool {
-    match code {
+// Whether the library gives what the record says behind its code; none for a byte that is no code, as the 0 behind the list's end is. The
+// codes and the list's form stand in oracle/README.md.
+fn replayed(code: u8) -> Option<bool> {
+    // Kept: a match: the codes are the list's, and a table of functions is no plainer.
+    let same = match code {
         1 => headers::checksum(),
         2 => headers::header_read(),
         3 => headers::header_build(),
@@ -53,58 +39,42 @@ fn replayed(code: u8) -> bool {
         19 => directives::ack_write(),
         20 => metadatas::metadata_read(),
         21 => metadatas::metadata_write(),
-        _ => false,
-    }
-}
-
-fn print_number(n: u64, behind: &[u8]) {
-    io::print_decimal(STDOUT_FILENO, n);
-    io::write_all(STDOUT_FILENO, behind);
-}
-
-// Names a differing record by its number in the list, counted from 1; the first twenty of them alone.
-fn name(record: u64, code: u8, before: u64) {
-    if before < MOST_NAMED {
-        io::write_all(STDOUT_FILENO, b"differs: record ");
-        print_number(record, b", code ");
-        print_number(code as u64, b"\n");
-    }
-}
-
-// 1 for a record that differs, which is named, else 0.
-fn differs(record: u64, code: u8, before: u64) -> u64
-    ensures { result ≤ 1 }
-{
-    if replayed(code) {
-        return 0;
-    }
-    name(record, code, before);
-    1
+        _ => return None,
+    };
+    Some(same)
 }
 
 // The list says how many records it has; where they are fewer, or bytes are left, it is not whole.
-fn report(records: u64, replayed: u64, differing: u64) {
-    print_number(replayed, b" replayed, ");
-    print_number(differing, b" differ\n");
+fn report(rt: &impl Print, records: u32, replayed: u32, differing: u32) -> std::io::Result<()> {
+    println!(rt; "{replayed} replayed, {differing} differ")?;
     if replayed < records {
-        io::write_all(STDOUT_FILENO, b"the list ends early\n");
+        println!(rt; "the list ends early")?;
     }
     if !list::is_at_end() {
-        io::write_all(STDOUT_FILENO, b"the list goes on\n");
+        println!(rt; "the list goes on")?;
     }
+    Ok(())
 }
 
-fn main() {
-    let records = list::four() as u64;
+// A record that differs is named by its number in the list, counted from 1; the first twenty of them alone.
+fn main(rt: HostRuntime) {
+    let records = list::four();
+    let mut count = 0;
     let mut differing = 0;
-    let mut i = 0;
-    while i < records {
+    for before in 0..records {
         let code = list::byte();
-        if !is_code(code) {
+        let Some(same) = replayed(code) else {
             break;
+        };
+        count = before + 1;
+        if same {
+            continue;
         }
-        i += 1;
-        differing += differs(i, code, differing);
+        if differing < MOST_NAMED {
+            // Where standard output takes nothing there is nobody to tell, and the list is read on.
+            let _ = println!(rt; "differs: record {count}, code {code}");
+        }
+        differing += 1;
     }
-    report(records, i, differing);
+    let _ = report(&rt, records, count, differing);
 }

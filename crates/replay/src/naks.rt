@@ -1,174 +1,144 @@
 // The records of NAKs: reads what goes in, calls the library, compares.
-use crate::expected::UNTOUCHED;
+use crate::expected::{Lent, UNTOUCHED};
 use crate::list::{MOST_BYTES, MOST_LARGE, MOST_NORMAL};
 use crate::{expected, list};
-use cfdp::{ANSWER_LEN, compare, read, reserve, write};
+use cfdp::{ANSWER_LEN, Answer, compare, read, reserve, write};
 
 pub fn nak_read() -> bool {
-    let mut bytes = [0u8; MOST_BYTES];
-    let n = list::bytes(&mut bytes);
+    let mut bytes = [0; MOST_BYTES];
+    let bytes = list::bytes(&mut bytes);
     let mut answer = [UNTOUCHED; ANSWER_LEN];
-    read::cfdp_nak_read(&bytes[..n], &mut answer);
+    read::cfdp_nak_read(bytes, &mut answer);
     let same = expected::answer(&answer);
-    same & expected::requests(&answer, &bytes[..n])
+    same & expected::requests(&answer, bytes)
 }
 
 pub fn nak_write() -> bool {
-    let shape = list::pdu_shape();
-    let ids = list::ids();
+    let header = list::Header::next();
     let start = list::eight();
     let end = list::eight();
-    let lent = list::four();
-    let filler = list::byte();
-    let mut buf = [filler; MOST_BYTES];
-    let n = list::within(lent, &buf);
+    expected::writes(|buf, answer| {
+        write::cfdp_nak_write(&header.shape, &header.ids, start, end, buf, answer)
+    })
+}
+
+// Whether a call that writes the list's requests answers as the list says; room for the most of them is lent.
+fn writes_requests<T: Drop, R, F>(room: &mut [T], next: R, write: F) -> bool
+where
+    R: Fn() -> T,
+    F: FnOnce(&[u8; 10], &[u64; 3], u64, u64, &[T], &mut [u8], &mut Answer),
+    requires reading { R.IsAlwaysCallable next }
+    requires writing { F.IsAlwaysCallable write }
+{
+    let header = list::Header::next();
+    let start = list::eight();
+    let end = list::eight();
+    let numbers = list::numbers(room, next);
+    let mut lent = Lent::next();
     let mut answer = [UNTOUCHED; ANSWER_LEN];
-    write::cfdp_nak_write(&shape, &ids, start, end, &mut buf[..n], &mut answer);
+    write(
+        &header.shape,
+        &header.ids,
+        start,
+        end,
+        numbers,
+        lent.front(),
+        &mut answer,
+    );
     let same = expected::answer(&answer);
-    same & expected::after(&buf, filler)
+    same & lent.is_listed()
 }
 
 pub fn nak_write_normal() -> bool {
-    let shape = list::pdu_shape();
-    let ids = list::ids();
-    let start = list::eight();
-    let end = list::eight();
-    let mut numbers = [0u32; MOST_NORMAL];
-    let count = list::normal(&mut numbers);
-    let lent = list::four();
-    let filler = list::byte();
-    let mut buf = [filler; MOST_BYTES];
-    let n = list::within(lent, &buf);
-    let mut answer = [UNTOUCHED; ANSWER_LEN];
-    write::cfdp_nak_write_normal(
-        &shape,
-        &ids,
-        start,
-        end,
-        &numbers[..count],
-        &mut buf[..n],
-        &mut answer,
-    );
-    let same = expected::answer(&answer);
-    same & expected::after(&buf, filler)
+    writes_requests(
+        &mut [0; MOST_NORMAL],
+        list::four,
+        write::cfdp_nak_write_normal,
+    )
 }
 
 pub fn nak_write_large() -> bool {
-    let shape = list::pdu_shape();
-    let ids = list::ids();
-    let start = list::eight();
-    let end = list::eight();
-    let mut numbers = [0u64; MOST_LARGE];
-    let count = list::large(&mut numbers);
-    let lent = list::four();
-    let filler = list::byte();
-    let mut buf = [filler; MOST_BYTES];
-    let n = list::within(lent, &buf);
-    let mut answer = [UNTOUCHED; ANSWER_LEN];
-    write::cfdp_nak_write_large(
-        &shape,
-        &ids,
-        start,
-        end,
-        &numbers[..count],
-        &mut buf[..n],
-        &mut answer,
-    );
-    let same = expected::answer(&answer);
-    same & expected::after(&buf, filler)
+    writes_requests(
+        &mut [0; MOST_LARGE],
+        list::eight,
+        write::cfdp_nak_write_large,
+    )
 }
 
 pub fn nak_most() -> bool {
-    let shape = list::pdu_shape();
-    let ids = list::ids();
+    let header = list::Header::next();
     let packet = list::eight() as usize;
-    let mut answer = [UNTOUCHED; ANSWER_LEN];
-    write::cfdp_nak_most(&shape, &ids, packet, &mut answer);
-    expected::answer(&answer)
+    expected::answers(|answer| write::cfdp_nak_most(&header.shape, &header.ids, packet, answer))
 }
 
 pub fn nak_reserve() -> bool {
-    let shape = list::pdu_shape();
-    let ids = list::ids();
+    let header = list::Header::next();
     let pairs = list::eight() as usize;
-    let lent = list::four();
-    let filler = list::byte();
-    let buf = [filler; MOST_BYTES];
-    let n = list::within(lent, &buf);
-    let mut answer = [UNTOUCHED; ANSWER_LEN];
-    reserve::cfdp_nak_reserve(&shape, &ids, pairs, &buf[..n], &mut answer);
-    let same = expected::answer(&answer);
-    same & expected::after(&buf, filler)
+    expected::writes(|buf, answer| {
+        reserve::cfdp_nak_reserve(&header.shape, &header.ids, pairs, buf, answer)
+    })
 }
 
 pub fn nak_finish() -> bool {
-    let shape = list::pdu_shape();
-    let ids = list::ids();
+    let header = list::Header::next();
     let start = list::eight();
     let end = list::eight();
     let pairs = list::eight() as usize;
-    let lent = list::four();
-    let filler = list::byte();
-    let mut buf = [filler; MOST_BYTES];
-    let n = list::within(lent, &buf);
-    let mut answer = [UNTOUCHED; ANSWER_LEN];
-    reserve::cfdp_nak_finish(&shape, &ids, pairs, start, end, &mut buf[..n], &mut answer);
-    let same = expected::answer(&answer);
-    same & expected::after(&buf, filler)
+    expected::writes(|buf, answer| {
+        reserve::cfdp_nak_finish(&header.shape, &header.ids, pairs, start, end, buf, answer)
+    })
 }
 
 pub fn nak_compare() -> bool {
-    let shape = list::pdu_shape();
-    let ids = list::ids();
+    let header = list::Header::next();
     let start = list::eight();
     let end = list::eight();
-    let mut bytes = [0u8; MOST_BYTES];
-    let n = list::bytes(&mut bytes);
+    let mut bytes = [0; MOST_BYTES];
+    let bytes = list::bytes(&mut bytes);
+    expected::answers(|answer| {
+        compare::cfdp_nak_compare(bytes, &header.shape, &header.ids, start, end, answer)
+    })
+}
+
+// Whether a call that compares the list's bytes with its requests answers as the list says; room for the most of them is lent.
+fn compares_requests<T: Drop, R, F>(room: &mut [T], next: R, compare: F) -> bool
+where
+    R: Fn() -> T,
+    F: FnOnce(&[u8], &[u8; 10], &[u64; 3], u64, u64, &[T], &mut Answer),
+    requires reading { R.IsAlwaysCallable next }
+    requires comparing { F.IsAlwaysCallable compare }
+{
+    let header = list::Header::next();
+    let start = list::eight();
+    let end = list::eight();
+    let mut bytes = [0; MOST_BYTES];
+    let bytes = list::bytes(&mut bytes);
+    let numbers = list::numbers(room, next);
     let mut answer = [UNTOUCHED; ANSWER_LEN];
-    compare::cfdp_nak_compare(&bytes[..n], &shape, &ids, start, end, &mut answer);
+    compare(
+        bytes,
+        &header.shape,
+        &header.ids,
+        start,
+        end,
+        numbers,
+        &mut answer,
+    );
     expected::answer(&answer)
 }
 
 pub fn nak_compare_normal() -> bool {
-    let shape = list::pdu_shape();
-    let ids = list::ids();
-    let start = list::eight();
-    let end = list::eight();
-    let mut bytes = [0u8; MOST_BYTES];
-    let n = list::bytes(&mut bytes);
-    let mut numbers = [0u32; MOST_NORMAL];
-    let count = list::normal(&mut numbers);
-    let mut answer = [UNTOUCHED; ANSWER_LEN];
-    compare::cfdp_nak_compare_normal(
-        &bytes[..n],
-        &shape,
-        &ids,
-        start,
-        end,
-        &numbers[..count],
-        &mut answer,
-    );
-    expected::answer(&answer)
+    compares_requests(
+        &mut [0; MOST_NORMAL],
+        list::four,
+        compare::cfdp_nak_compare_normal,
+    )
 }
 
 pub fn nak_compare_large() -> bool {
-    let shape = list::pdu_shape();
-    let ids = list::ids();
-    let start = list::eight();
-    let end = list::eight();
-    let mut bytes = [0u8; MOST_BYTES];
-    let n = list::bytes(&mut bytes);
-    let mut numbers = [0u64; MOST_LARGE];
-    let count = list::large(&mut numbers);
-    let mut answer = [UNTOUCHED; ANSWER_LEN];
-    compare::cfdp_nak_compare_large(
-        &bytes[..n],
-        &shape,
-        &ids,
-        start,
-        end,
-        &numbers[..count],
-        &mut answer,
-    );
-    expected::answer(&answer)
+    compares_requests(
+        &mut [0; MOST_LARGE],
+        list::eight,
+        compare::cfdp_nak_compare_large,
+    )
 }

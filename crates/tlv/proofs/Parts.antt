@@ -14,10 +14,9 @@ use Rattle.fields.specs.BigEndian.{number_at}
 use Rattle.fields.proofs.BigEndian.{number_append, number_behind, part_take}
 use Rattle.tlv.specs.declared.Form.{Form}
 use Rattle.tlv.specs.declared.Field.{Field}
-use Rattle.tlv.specs.declared.read.FieldResult.TheVariants.{Field as Whole}
-use Rattle.tlv.specs.declared.walk.FirstCut.TheVariants.{At}
+use Rattle.std.specs.Prelude.{Ok}
 use Rattle.tlv.specs.Form.{tag_bytes, length_bytes, head_bytes}
-use Rattle.tlv.specs.Reading.{tag_at, length_at, stop_at, field_at, value_of, shown}
+use Rattle.tlv.specs.Reading.{tag_at, length_at, stop_at, field_at, cut_at, value_of, shown}
 use Rattle.tlv.specs.Walking.{fields_from, fields_of, last_stop, reach, first_cut}
 use Rattle.tlv.specs.Parts.{further_on, PartShows, ValueBefore, WholeStays}
 use Rattle.tlv.proofs.Reading.{whole?, field_whole, is_field, backwards, within}
@@ -110,7 +109,7 @@ module _ (form : Form) (s : List ℕ) (p : ℕ) (inside : p ≤ length s) where
         | no g ↦
             let l : reach form D 0 < length D = lt_of_not-le g in
             let k : reach form s p < length s = omega (arith, size, same_reach) in
-            rw (lt-leb (length D) (reach form D 0) l, lt-leb (length s) (reach form s p) k) (ap At (sym same_reach))
+            rw (lt-leb (length D) (reach form D 0) l, lt-leb (length s) (reach form s p) k) (ap cut_at (sym same_reach))
       ]
 
 pub part_shows : PartShows
@@ -148,4 +147,4 @@ whole_stays form area t at f e =
     let g : tag_at form (area ++ t) at ≡ tag_at form area at = tag_stays form area t at (omega arith) in
     let s : stop_at form (area ++ t) at ≡ stop_at form area at = ap (λ (x : ℕ). at + head_bytes form + x) n in
     let k : stop_at form (area ++ t) at ≤ length (area ++ t) = omega (arith, length-append area t) in
-    sym (field_whole form (area ++ t) at k) ∙ (λ i. Whole (record { tag = g i; start = at + head_bytes form; stop = s i })) ∙ ap Whole q
+    sym (field_whole form (area ++ t) at k) ∙ (λ i. Ok (record { tag = g i; start = at + head_bytes form; stop = s i })) ∙ ap Ok q

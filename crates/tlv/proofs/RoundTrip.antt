@@ -11,7 +11,7 @@ use Rattle.fields.specs.BigEndian.{be_bytes, number_at}
 use Rattle.fields.proofs.BigEndian.{be_length, number_back}
 use Rattle.tlv.specs.declared.Form.{Form}
 use Rattle.tlv.specs.declared.Field.{Field}
-use Rattle.tlv.specs.declared.read.FieldResult.TheVariants.{Field as Whole}
+use Rattle.std.specs.Prelude.{Ok}
 use Rattle.tlv.specs.Form.{tag_bytes, length_bytes, head_bytes, head_of, field_bytes, fields_bytes}
 use Rattle.tlv.specs.Reading.{tag_at, length_at, stop_at, field_at, field_in, value_of, shown}
 use Rattle.tlv.specs.Walking.{shown_from, reach}
@@ -74,7 +74,7 @@ module _ (form : Form) (pre post : List ℕ) (tag : ℕ) (value : List ℕ) (at 
       ∙ take_at value post (length value) refl
 
   back : ReadsBack form A at (tag, value)
-  back = record { read = sym (field_whole form A at stops_in) ∙ ap Whole field_back; value = value_back }
+  back = record { read = sym (field_whole form A at stops_in) ∙ ap Ok field_back; value = value_back }
 
   shown_back : shown A (field_at form A at) ≡ (tag, value)
   shown_back = ap (shown A) field_back ∙ ap (λ (v : List ℕ). (tag, v)) value_back
@@ -85,7 +85,7 @@ field_reads_back form pre post p f = back form pre post p.0 p.1 (length pre) ref
 pub only_reads_back : OnlyReadsBack
 only_reads_back form pre p f =
     let X = field_bytes form p.0 p.1 in
-    let r : field_in form (pre ++ X) (length pre) ≡ Whole (placed form (length pre) p) =
+    let r : field_in form (pre ++ X) (length pre) ≡ Ok (placed form (length pre) p) =
     ap (λ (x : List ℕ). field_in form (pre ++ x) (length pre)) (sym (append-nil X)) ∙ (field_reads_back form pre [] p f).read in
     let l : length (pre ++ X) ≡ length pre + (head_bytes form + length p.1) = length-append pre X
     ∙ ap (λ (n : ℕ). length pre + n) (field_length form p.0 p.1) in

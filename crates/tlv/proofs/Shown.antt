@@ -12,17 +12,15 @@ use lib.Dec.{leb}
 use lib.ListN.{length, drop, take, length-drop}
 use lib.Seq.{drop-drop, take-add, take_all, length-take-le}
 use borrow.Author.Tests.{le-leb, leb-true, leb-false}
-use Rattle.std.specs.Prelude.{if◌then◌else◌}
+use Rattle.std.specs.Prelude.{if◌then◌else◌, Option, Result, Ok}
 use Rattle.fields.specs.BigEndian.{Bytes}
 use Rattle.fields.proofs.BigEndian.{number_bytes}
 use Rattle.tlv.specs.declared.Form.{Form}
 use Rattle.tlv.specs.declared.Field.{Field}
-use Rattle.tlv.specs.declared.walk.FieldCursor.{FieldCursor}
 use Rattle.tlv.specs.declared.walk.NextField.{NextField}
-use Rattle.tlv.specs.declared.walk.NextField.TheVariants.{Field as Next}
-use Rattle.tlv.specs.declared.walk.FirstCut.TheVariants.{At, Nothing}
+use Rattle.tlv.specs.declared.Cut.{Cut}
 use Rattle.tlv.specs.Form.{tag_bytes, length_bytes, head_bytes, head_of, field_bytes, fields_bytes}
-use Rattle.tlv.specs.Reading.{tag_at, length_at, stop_at, field_at, value_of, shown}
+use Rattle.tlv.specs.Reading.{tag_at, length_at, stop_at, field_at, cut_at, value_of, shown}
 use Rattle.tlv.specs.Walking.{fields_from, fields_of, shown_from, last_stop, reach, first_cut}
 use Rattle.tlv.specs.Shown.{step_on, walk, UncutIsWalked, Stopped, CutIsTold, Further, StepLeadsOn}
 use Rattle.tlv.proofs.Reading.{head_some, whole?, within}
@@ -40,14 +38,14 @@ walk_fields form area (suc n) at = go (whole? form area at) (walk_fields form ar
         → walk form area n (stop_at form area at) ≡ fields_from n form area (stop_at form area at)
         → walk form area (suc n) at ≡ fields_from (suc n) form area at
     go (inl l) more =
-        ap (λ (x : NextField). step_on x (walk form area n)) (sym (next_field_lem form area at l))
+        ap (λ (x : Result (Option NextField) Cut). step_on x (walk form area n)) (sym (next_field_lem form area at l))
         ∙ ap (λ (x : List Field). field_at form area at ∷ x) more
         ∙ sym (fields_first form area n at l)
     go (inr l) more = stopped (dec_le (length area) at) ∙ sym (fields_none form area (suc n) at l)
       where
         stopped : Dec (length area ≤ at) → walk form area (suc n) at ≡ []
-        stopped (yes k) = ap (λ (x : NextField). step_on x (walk form area n)) (sym (next_end form area at k))
-        stopped (no g) = ap (λ (x : NextField). step_on x (walk form area n)) (sym (next_cut form area at (lt_of_not-le g) l))
+        stopped (yes k) = ap (λ (x : Result (Option NextField) Cut). step_on x (walk form area n)) (sym (next_end form area at k))
+        stopped (no g) = ap (λ (x : Result (Option NextField) Cut). step_on x (walk form area n)) (sym (next_cut form area at (lt_of_not-le g) l))
 
 -- no more than there are
 fields_count : (form : Form) (area : List ℕ) (m n at : ℕ) → length (fields_from m form area at) ≤ n → n ≤ m
@@ -117,15 +115,15 @@ unfolding reach fields_of
 reach_stops form area at = reached form area (length area) at (omega arith)
 
 -- nothing is cut exactly if they reach the end
-pub uncut_reach : (form : Form) (area : List ℕ) (at : ℕ) → first_cut form area at ≡ Nothing → length area ≤ reach form area at
+pub uncut_reach : (form : Form) (area : List ℕ) (at : ℕ) → first_cut form area at ≡ Ok tt → length area ≤ reach form area at
 unfolding first_cut
 uncut_reach form area at e = go (leb (length area) (reach form area at)) refl e
   where
-    go : (c : Bool) → leb (length area) (reach form area at) ≡ c → (if c then Nothing else At (reach form area at)) ≡ Nothing → length area ≤ reach form area at
+    go : (c : Bool) → leb (length area) (reach form area at) ≡ c → ◌≡◌ {A = Result (Unit {0}) Cut} (if c then Ok tt else cut_at (reach form area at)) (Ok tt) → length area ≤ reach form area at
     go true p d = leb-true _ _ p
-    go false p d = let z : ◌≡◌ {A = ℕ} 0 1 = cc in absurd (let b : ⊥ = omega arith in b)
+    go false p d = absurd (cc)
 
-pub reach_uncut : (form : Form) (area : List ℕ) (at : ℕ) → length area ≤ reach form area at → first_cut form area at ≡ Nothing
+pub reach_uncut : (form : Form) (area : List ℕ) (at : ℕ) → length area ≤ reach form area at → first_cut form area at ≡ Ok tt
 unfolding first_cut
 reach_uncut form area at l = rw (le-leb _ _ l)
 
@@ -196,7 +194,7 @@ module _ (form : Form) (area : List ℕ) (b : Bytes area) where
 -- ---- all together
 
 -- nothing is cut: up to the area's end
-pub fields_are_the_area : (form : Form) (area : List ℕ) (at : ℕ) → Bytes area → first_cut form area at ≡ Nothing
+pub fields_are_the_area : (form : Form) (area : List ℕ) (at : ℕ) → Bytes area → first_cut form area at ≡ Ok tt
     → fields_bytes form (shown_from form area at) ≡ drop at area
 fields_are_the_area form area at b e =
     let l = uncut_reach form area at e in
@@ -218,11 +216,12 @@ pub cut_is_told : CutIsTold
 unfolding first_cut reach
 cut_is_told form area at rounds place e r = go (leb (length area) (reach form area at)) refl e
   where
-    go : (c : Bool) → leb (length area) (reach form area at) ≡ c → (if c then Nothing else At (reach form area at)) ≡ At place
+    go : (c : Bool) → leb (length area) (reach form area at) ≡ c → ◌≡◌ {A = Result (Unit {0}) Cut} (if c then Ok tt else cut_at (reach form area at)) (cut_at place)
         → Stopped form area at rounds place
-    go true p d = let z : ◌≡◌ {A = ℕ} 0 1 = cc in absurd (let b : ⊥ = omega arith in b)
+    go true p d = absurd (cc)
     go false p d =
-        let q : reach form area at ≡ place = cc in
+        let e : ◌≡◌ {A = Cut} (record { at = reach form area at }) (record { at = place }) = cc in
+        let q : reach form area at ≡ place = ap (λ (x : Cut). x.at) e in
         let w : walk form area rounds at ≡ fields_of form area at = walk_shows_fields form area at rounds r in
         let k : place < length area = rw (← q) (leb-false _ _ p) in
         let l : length area < stop_at form area place = rw (← q) (reach_stops form area at) in
@@ -231,22 +230,21 @@ cut_is_told form area at rounds place e r = go (leb (length area) (reach form ar
 pub step_leads_on : StepLeadsOn
 step_leads_on form area at f next e =
     elim (dec_le (length area) at) [
-      | yes l ↦ absurd (let p = next_end form area at l ∙ e in let z : ◌≡◌ {A = ℕ} 0 1 = cc in let b : ⊥ = omega arith in b)
+      | yes l ↦ let p = next_end form area at l ∙ e in absurd (cc)
       | no g ↦ go (lt_of_not-le g) (whole? form area at)
     ]
   where
     go : at < length area → (stop_at form area at ≤ length area) ⊎ (length area < stop_at form area at) → Further area at f next
     go k (inl l) =
-        let p : Next (field_at form area at) (record { at = stop_at form area at }) ≡ Next f next = next_field_lem form area at l ∙ e in
-        let qf : field_at form area at ≡ f = cc in
-        let qn : ◌≡◌ {A = FieldCursor} (record { at = stop_at form area at }) next = cc in
-        let s : at + head_bytes form ≡ f.start = ap (λ (x : Field). x.start) qf in
-        let t : stop_at form area at ≡ f.stop = ap (λ (x : Field). x.stop) qf in
-        let n : stop_at form area at ≡ next.at = ap (λ (x : FieldCursor). x.at) qn in
+        let p = next_field_lem form area at l ∙ e in
+        let q : ◌≡◌ {A = NextField} (record { field = field_at form area at; next = record { at = stop_at form area at } }) (record { field = f; next = next }) = cc in
+        let s : at + head_bytes form ≡ f.start = ap (λ (x : NextField). x.field.start) q in
+        let t : stop_at form area at ≡ f.stop = ap (λ (x : NextField). x.field.stop) q in
+        let n : stop_at form area at ≡ next.at = ap (λ (x : NextField). x.next.at) q in
         record {
           starts = omega (arith, head_some form);
           stops = omega arith;
           next_is = sym n ∙ t;
           inside = omega arith;
         }
-    go k (inr l) = absurd (let p = next_cut form area at k l ∙ e in let z : ◌≡◌ {A = ℕ} 0 1 = cc in let b : ⊥ = omega arith in b)
+    go k (inr l) = let p = next_cut form area at k l ∙ e in absurd (cc)

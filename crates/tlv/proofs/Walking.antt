@@ -7,59 +7,54 @@ use mathlib.Core.List.{List, [], ◌∷◌}
 use native.Mathlib.Omega.{arith}
 use lib.ListN.{length}
 use borrow.Author.Tests.{le-leb, lt-leb}
+use Rattle.std.specs.Prelude.{Some, None, Ok, Err}
 use Rattle.tlv.specs.declared.Form.{Form}
 use Rattle.tlv.specs.declared.Field.{Field}
-use Rattle.tlv.specs.declared.read.FieldResult.TheVariants.{Field as Whole, Cut as Short}
-use Rattle.tlv.specs.declared.walk.NextField.TheVariants.{Field as Next, End, Cut}
-use Rattle.tlv.specs.declared.walk.FirstCut.TheVariants.{At, Nothing}
-use Rattle.tlv.specs.Reading.{stop_at, field_at, field_in}
+use Rattle.tlv.specs.declared.Cut.{Cut}
+use Rattle.tlv.specs.Reading.{stop_at, field_at, cut_at, field_in}
 use Rattle.tlv.specs.Within.{behind}
 use Rattle.tlv.specs.Walking.{fields_from, fields_of, last_stop, reach, first_cut, next_field}
-use Rattle.tlv.proofs.Reading.{head_some, whole, not_whole, whole?, behind_whole, behind_cut, field_whole, field_cut, same_place, other_place}
+use Rattle.tlv.proofs.Reading.{head_some, whole, not_whole, whole?, field_whole, field_cut, none_behind, some_behind}
 
 -- ---- one step
 
 module _ (form : Form) (area : List ℕ) (at : ℕ) where
-  pub next_end : length area ≤ at → End ≡ next_field form area at
+  pub next_end : length area ≤ at → Ok None ≡ next_field form area at
   unfolding next_field
   next_end l = rw (le-leb _ _ l)
 
-  pub next_field_lem : stop_at form area at ≤ length area → Next (field_at form area at) (record { at = stop_at form area at }) ≡ next_field form area at
+  pub next_field_lem : stop_at form area at ≤ length area
+      → Ok (Some (record { field = field_at form area at; next = record { at = stop_at form area at } })) ≡ next_field form area at
   unfolding next_field
   next_field_lem l =
       let k : at < length area = omega (arith, head_some form) in
       rw (lt-leb _ _ k, whole form area at l)
 
-  pub next_cut : at < length area → length area < stop_at form area at → Cut at ≡ next_field form area at
+  pub next_cut : at < length area → length area < stop_at form area at → cut_at at ≡ next_field form area at
   unfolding next_field
   next_cut k l = rw (lt-leb _ _ k, not_whole form area at l)
 
   -- from what is read there
-  pub read_field : (f : Field) → Whole f ≡ field_in form area at → Next f (record { at = f.stop }) ≡ next_field form area at
+  pub read_field : (f : Field) → Ok f ≡ field_in form area at → Ok (Some (record { field = f; next = record { at = f.stop } })) ≡ next_field form area at
   read_field f e = go (whole? form area at)
     where
-      go : (stop_at form area at ≤ length area) ⊎ (length area < stop_at form area at) → Next f (record { at = f.stop }) ≡ next_field form area at
+      go : (stop_at form area at ≤ length area) ⊎ (length area < stop_at form area at)
+          → Ok (Some (record { field = f; next = record { at = f.stop } })) ≡ next_field form area at
       go (inl l) =
-          let p : Whole f ≡ Whole (field_at form area at) = e ∙ sym (field_whole form area at l) in
+          let p = e ∙ sym (field_whole form area at l) in
           let q : f ≡ field_at form area at = cc in
-          ap (λ (x : Field). Next x (record { at = x.stop })) q ∙ next_field_lem l
-      go (inr l) =
-          let p : Whole f ≡ Short at = e ∙ sym (field_cut form area at l) in
-          let z : ◌≡◌ {A = ℕ} 0 1 = cc in
-          absurd (let b : ⊥ = omega arith in b)
+          ap (λ (x : Field). Ok (Some (record { field = x; next = record { at = x.stop } }))) q ∙ next_field_lem l
+      go (inr l) = let p = e ∙ sym (field_cut form area at l) in absurd (cc)
 
-  pub read_cut : (place : ℕ) → at < length area → Short place ≡ field_in form area at → Cut place ≡ next_field form area at
-  read_cut place k e = go (whole? form area at)
+  pub read_cut : (cut : Cut) → at < length area → Err cut ≡ field_in form area at → Err cut ≡ next_field form area at
+  read_cut cut k e = go (whole? form area at)
     where
-      go : (stop_at form area at ≤ length area) ⊎ (length area < stop_at form area at) → Cut place ≡ next_field form area at
-      go (inl l) =
-          let p : Short place ≡ Whole (field_at form area at) = e ∙ sym (field_whole form area at l) in
-          let z : ◌≡◌ {A = ℕ} 0 1 = cc in
-          absurd (let b : ⊥ = omega arith in b)
+      go : (stop_at form area at ≤ length area) ⊎ (length area < stop_at form area at) → Err cut ≡ next_field form area at
+      go (inl l) = let p = e ∙ sym (field_whole form area at l) in absurd (cc)
       go (inr l) =
-          let p : Short place ≡ Short at = e ∙ sym (field_cut form area at l) in
-          let q : place ≡ at = cc in
-          ap Cut q ∙ next_cut k l
+          let p = e ∙ sym (field_cut form area at l) in
+          let q : cut ≡ record { at = at } = cc in
+          ap Err q ∙ next_cut k l
 
 -- ---- the fields from a place
 
@@ -111,35 +106,27 @@ module _ (form : Form) (area : List ℕ) where
   reach_here at l = sym (ap (last_stop at) (of_none at l))
 
   -- a turn goes further, and never beyond the area
-  pub behind_in : (at v : ℕ) → v ≡ behind form area at → at < v → v ≤ length area
-  behind_in at v e h =
-      let l = other_place form area at v e (λ (q : v ≡ at). omega arith) in
-      omega (arith, e ∙ sym (behind_whole form area at l))
+  pub behind_in : (at v : ℕ) → Some v ≡ behind form area at → (at < v) × (v ≤ length area)
+  behind_in at v e =
+      let b = some_behind form area at v e in
+      (omega (arith, head_some form), omega arith)
 
   -- a turn goes on from the place behind a field
-  pub cut_turn : (at v from : ℕ) → v ≡ behind form area at → at < v → reach form area at ≡ reach form area from → reach form area v ≡ reach form area from
-  cut_turn at v from e h p =
-      let l = other_place form area at v e (λ (q : v ≡ at). omega arith) in
-      let r : v ≡ stop_at form area at = e ∙ sym (behind_whole form area at l) in
-      ap (reach form area) r ∙ reach_on at l ∙ p
+  pub cut_turn : (at v from : ℕ) → Some v ≡ behind form area at → reach form area at ≡ reach form area from → reach form area v ≡ reach form area from
+  cut_turn at v from e p =
+      let b = some_behind form area at v e in
+      ap (reach form area) b.1 ∙ reach_on at b.0 ∙ p
 
-  cut_reach : (at v from : ℕ) → v ≡ behind form area at → v ≤ at → at ≤ v → reach form area at ≡ reach form area from → at ≡ reach form area from
-  cut_reach at v from e h k p = reach_here at (same_place form area at v e (omega arith)) ∙ p
+  cut_reach : (at from : ℕ) → None ≡ behind form area at → reach form area at ≡ reach form area from → at ≡ reach form area from
+  cut_reach at from e p = reach_here at (none_behind form area at e) ∙ p
 
-  pub cut_none : (at v from : ℕ) → v ≡ behind form area at → v ≤ at → at ≤ v → reach form area at ≡ reach form area from → length area ≤ at
-      → Nothing ≡ first_cut form area from
+  pub cut_none : (at from : ℕ) → None ≡ behind form area at → reach form area at ≡ reach form area from → length area ≤ at → Ok tt ≡ first_cut form area from
   unfolding first_cut
-  cut_none at v from e h k p l = rw (← cut_reach at v from e h k p, le-leb _ _ l)
+  cut_none at from e p l = rw (← cut_reach at from e p, le-leb _ _ l)
 
-  pub cut_some : (at v from : ℕ) → v ≡ behind form area at → v ≤ at → at ≤ v → reach form area at ≡ reach form area from → at < length area
-      → At at ≡ first_cut form area from
+  pub cut_some : (at from : ℕ) → None ≡ behind form area at → reach form area at ≡ reach form area from → at < length area → cut_at at ≡ first_cut form area from
   unfolding first_cut
-  cut_some at v from e h k p l = rw (← cut_reach at v from e h k p, lt-leb _ _ l)
+  cut_some at from e p l = rw (← cut_reach at from e p, lt-leb _ _ l)
 
-  -- the place behind is never before
-  pub behind_le : (at v : ℕ) → v ≡ behind form area at → at ≤ v
-  behind_le at v e = go (whole? form area at)
-    where
-      go : (stop_at form area at ≤ length area) ⊎ (length area < stop_at form area at) → at ≤ v
-      go (inl l) = omega (arith, e ∙ sym (behind_whole form area at l))
-      go (inr l) = omega (arith, e ∙ sym (behind_cut form area at l))
+-- what the loop cites
+pub ruleset turns = (behind_in, cut_turn, cut_none, cut_some)

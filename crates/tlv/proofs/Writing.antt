@@ -1,17 +1,15 @@
--- Stores: bytes one by one, a field, and a number as a field; and what a write leaves where it fits and where it does not.
+-- Stores: bytes, a field, and a number as a field; and what a write leaves where it fits and where it does not.
 -- Assumes nothing.
-use Prim.Native.Nat.{ℕ, suc, ◌+◌, ◌-◌, ◌^◌, ◌≤◌, ◌<◌}
+use Prim.Native.Nat.{ℕ, ◌+◌, ◌^◌, ◌≤◌, ◌<◌}
 use mathlib.Core.Path.{◌≡◌, sym, ap, ap₂, ◌∙◌}
 use mathlib.Core.Bool.{true, false, and-false}
 use mathlib.Core.List.{List, ◌++◌}
-use native.Mathlib.Decide.{dec_le}
-use native.Mathlib.Nat.{lt_of_not-le, lt_of_lt_of_le, pow-le-pow_right}
-use native.Mathlib.Numerals.{add-one}
+use native.Mathlib.Nat.{lt_of_lt_of_le, pow-le-pow_right}
 use native.Mathlib.Omega.{arith}
 use lib.Dec.{leb}
-use lib.ListN.{length, get_or, take, drop, set, length-append, drop_of_length-le}
-use lib.Seq.{sets, sets-eq, drop-cons, take_at, length-sets, length-take-le}
-use borrow.Author.Tests.{le-leb, lt-leb, leb-true}
+use lib.ListN.{length, take, drop, length-append}
+use lib.Seq.{sets, sets-eq, take_at, length-sets, length-take-le}
+use borrow.Author.Tests.{le-leb, lt-leb}
 use Rattle.fields.specs.Width.{fits_width}
 use Rattle.fields.specs.BigEndian.{be_bytes, be_put}
 use Rattle.fields.proofs.BigEndian.{be_length, put_length, put_sets, put_empty, put_behind, sets_append}
@@ -22,38 +20,9 @@ use Rattle.tlv.specs.Form.{tag_bytes, length_bytes, head_bytes, head_of, field_b
 use Rattle.tlv.specs.Writing.{bytes_put, field_put, number_put}
 use Rattle.tlv.proofs.Reading.{length_most, length_least}
 
--- ---- byte by byte
-
-pub byte_turn : (w w₀ bytes : List ℕ) (at i : ℕ) → i < length bytes → sets w (at + i) (drop i bytes) ≡ sets w₀ at bytes
-    → sets (set w (at + i) (get_or bytes i 0)) (at + (i + 1)) (drop (i + 1) bytes) ≡ sets w₀ at bytes
-byte_turn w w₀ bytes at i h e =
-    let p : at + (i + 1) ≡ suc (at + i) = omega arith in
-    rw (p, add-one i) ((ap (sets w (at + i)) (sym (drop-cons bytes i 0 h))) ∙ e)
-
-pub bytes_done : (w w₀ bytes : List ℕ) (i at : ℕ) → length bytes ≤ i → sets w (at + i) (drop i bytes) ≡ sets w₀ at bytes → w ≡ sets w₀ at bytes
-bytes_done w w₀ bytes i at h e = ap (sets w (at + i)) (sym (drop_of_length-le bytes {i = i} h)) ∙ e
-
--- ---- room
-
-pub room_short : (len at size : ℕ) → len < size → false ≡ leb (at + size) len
-room_short len at size l = sym (lt-leb (at + size) len (omega arith))
-
-pub room_at : (len at size : ℕ) → size ≤ len → leb at (len - size) ≡ leb (at + size) len
-room_at len at size k =
-    elim (dec_le (at + size) len) [
-      | yes l ↦ rw (le-leb (at + size) len l) (le-leb at (len - size) (omega arith))
-      | no g ↦
-          let l : len < at + size = lt_of_not-le g in
-          rw (lt-leb (at + size) len l) (lt-leb at (len - size) (omega arith))
-    ]
-
 -- ---- bytes that are written
 
 module _ (s bytes : List ℕ) (at : ℕ) where
-  pub bytes_stay : leb (at + length bytes) (length s) ≡ false → s ≡ bytes_put s at bytes
-  unfolding bytes_put
-  bytes_stay e = rw e
-
   pub bytes_stored : leb (at + length bytes) (length s) ≡ true → sets s at bytes ≡ bytes_put s at bytes
   unfolding bytes_put
   bytes_stored e = rw e
@@ -100,27 +69,11 @@ field_stored form s b₁ b₂ b₃ value at tag t w et ew h k room e₁ e₂ e�
     e₃ ∙ ap₂ (λ (x : List ℕ) (n : ℕ). sets x n value) p₂ place ∙ sym (sets_append (A ++ B) value s at)
 
 module _ (form : Form) (s value : List ℕ) (at tag : ℕ) where
-  pub too_long : (w : ℕ) → w ≡ length_bytes form → fits_width w (length value) ≡ false → s ≡ field_put form s at tag value
-  unfolding field_put
-  too_long w p e = rw (← p, e)
-
-  pub no_room_lem : (head : ℕ) → head ≡ head_bytes form → leb (at + (head + length value)) (length s) ≡ false → s ≡ field_put form s at tag value
-  unfolding field_put
-  no_room_lem head p e = rw (← p, e, and-false)
-
   -- for callers: a field that fits and lies in the buffer
   pub put_field_sets : length value < 256 ^ length_bytes form → at + (head_bytes form + length value) ≤ length s
       → field_put form s at tag value ≡ sets s at (field_bytes form tag value)
   unfolding field_put
   put_field_sets h l = rw (lt_fits _ _ h, le-leb _ _ l)
-
-  -- what both tests let through
-  module _ (w head : ℕ) (pw : w ≡ length_bytes form) (ph : head ≡ head_bytes form) (ew : fits_width w (length value) ≡ true) (eh : leb (at + (head + length value)) (length s) ≡ true) where
-    pub let_through : (length value < 256 ^ length_bytes form) × (at + (head_bytes form + length value) ≤ length s)
-    let_through = (rw (← pw) (fits_lt w (length value) ew), rw (← ph) (leb-true _ _ eh))
-
-    pub field_put_lem : (b : List ℕ) → b ≡ sets s at (field_bytes form tag value) → b ≡ field_put form s at tag value
-    field_put_lem b e = e ∙ sym (put_field_sets let_through.0 let_through.1)
 
 -- ---- chains: behind what stands written so far, `pre`, with the rest as it was
 

@@ -1,17 +1,15 @@
 -- Areas that are parts of other bytes: a part shows what the whole shows there, and bytes behind an area change nothing of its whole fields.
-use Rattle.std.specs.Prelude.{ℕ, ◌+◌, ◌≤◌, ◌≡◌, List, ◌++◌, length, take, drop}
+use Rattle.std.specs.Prelude.{ℕ, ◌+◌, ◌≤◌, ◌≡◌, List, ◌++◌, length, take, drop, Result, Ok, Err}
 use Rattle.tlv.specs.declared.Form.{Form}
 use Rattle.tlv.specs.declared.Field.{Field}
-use Rattle.tlv.specs.declared.read.FieldResult.TheVariants.{Field as Whole}
-use Rattle.tlv.specs.declared.walk.FirstCut.{FirstCut}
-use Rattle.tlv.specs.declared.walk.FirstCut.TheVariants.{At, Nothing}
-use Rattle.tlv.specs.Reading.{field_in, value_of}
+use Rattle.tlv.specs.declared.Cut.{Cut}
+use Rattle.tlv.specs.Reading.{cut_at, field_in, value_of}
 use Rattle.tlv.specs.Walking.{shown_from, first_cut}
 
 -- a place so much further on
-abbrev pub further_on : ℕ → FirstCut → FirstCut
-further_on n (At place) = At (n + place)
-further_on n Nothing = Nothing
+abbrev pub further_on : ℕ → Result (Unit {0}) Cut → Result (Unit {0}) Cut
+further_on n (Ok none) = Ok none
+further_on n (Err cut) = cut_at (n + cut.at)
 
 -- from a place on: the same fields are shown, and what is cut in the part is cut in the whole
 pub record SamePart (form : Form) (s : List ℕ) (at : ℕ) : Type 0 where
@@ -27,4 +25,4 @@ ValueBefore = (s : List ℕ) (n : ℕ) (f : Field) → n ≤ length s → f.stop
 
 -- whatever follows the area, a field that is whole in it is read the same
 abbrev pub WholeStays : Type 0
-WholeStays = (form : Form) (area t : List ℕ) (at : ℕ) (f : Field) → field_in form area at ≡ Whole f → field_in form (area ++ t) at ≡ Whole f
+WholeStays = (form : Form) (area t : List ℕ) (at : ℕ) (f : Field) → field_in form area at ≡ Ok f → field_in form (area ++ t) at ≡ Ok f

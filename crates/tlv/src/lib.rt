@@ -3,14 +3,17 @@
 #![tactic(auto)]
 
 ghost use Rattle.std.specs.Prelude.{◌≡◌, ◌≤◌};
+ghost use Rattle.fields.specs.declared.refusal.Refusal.TheVariants.{FieldCut};
 ghost use Rattle.tlv.specs.Form.{tag_bytes, length_bytes, head_bytes};
+
+use fields::Refusal;
 
 pub mod read;
 pub mod walk;
 pub mod write;
 
 // What stands before a value.
-#[derive(Clone, Copy)]
+#[derive(Clone, Copy, PartialEq, Eq, Hash, Debug)]
 pub enum Form {
     // A length byte: the standard's LV, the Rust's `Lv`.
     Lv,
@@ -21,11 +24,26 @@ pub enum Form {
 }
 
 // A field that was read: its type, 0 where the form has none, and where its value starts and stops. The next field begins at `stop`.
-#[derive(Clone, Copy)]
+#[derive(Clone, Copy, PartialEq, Eq, Hash, Debug)]
 pub struct Field {
     pub tag: u8,
     pub start: usize,
     pub stop: usize,
+}
+
+// Why there is no field at a place: its head or its value runs past the end. `at` is the place of its first byte.
+#[derive(Clone, Copy, PartialEq, Eq, Hash, Debug)]
+pub struct Cut {
+    pub at: usize,
+}
+
+// A name or an option that is cut is refusal 25 of document 01, with that place; so ? hands a cut on as a refusal.
+impl From<Cut> for Refusal {
+    ghost from_gives = { λ cut refusal. refusal ≡ FieldCut cut.at };
+
+    fn from(cut: Cut) -> Refusal {
+        Refusal::FieldCut(cut.at)
+    }
 }
 
 impl Form {

@@ -4,23 +4,10 @@ ghost use Rattle.tlv.specs.Form.{head_bytes};
 ghost use Rattle.tlv.specs.Reading.{tag_at, length_at, field_in, only_field, value_of};
 ghost use Rattle.tlv.specs.Within.{behind};
 
-use crate::{Field, Form};
+use crate::{Cut, Field, Form};
 use fields::be;
 
-// The field at a place, or that its head or its value runs past the end, with the place of its first byte.
-#[derive(Clone, Copy)]
-pub enum FieldResult {
-    Field(Field),
-    Cut(usize),
-}
-
-// The one field that takes all bytes up to the end, or that they are something else.
-#[derive(Clone, Copy)]
-pub enum OnlyField {
-    Only(Field),
-    Other,
-}
-
+#[tactic(auto, using(crate::proofs::Reading::length_read))]
 fn length_at(form: Form, area: &[u8], at: usize) -> usize
     requires { at + head_bytes form ≤ length area.now }
     ensures { (result ≡ length_at form area.now at) × (result < 65536) }
@@ -29,6 +16,7 @@ fn length_at(form: Form, area: &[u8], at: usize) -> usize
     be::read_be(area, place, form.length_len()) as usize
 }
 
+#[tactic(auto, using(crate::proofs::Reading::tag_read))]
 fn tag_at(form: Form, area: &[u8], at: usize) -> u8
     requires { at + head_bytes form ≤ length area.now }
     ensures { result ≡ tag_at form area.now at }
@@ -36,55 +24,48 @@ fn tag_at(form: Form, area: &[u8], at: usize) -> u8
     be::read_be(area, at, form.tag_len()) as u8
 }
 
-// The place behind the field at `at`; `at` itself where no whole field stands there.
-pub(crate) fn behind_field(form: Form, area: &[u8], at: usize) -> usize
+// The place behind the field at `at`, where a whole one stands.
+#[tactic(auto, using(crate::proofs::Reading::stops, crate::proofs::Reading::behind_cut))]
+pub(crate) fn behind_field(form: Form, area: &[u8], at: usize) -> Option<usize>
     ensures { result ≡ behind form area.now at }
 {
     let head = form.head_len();
     if area.len() < head {
-        return at;
+        return None;
     }
     if area.len() - head < at {
-        return at;
+        return None;
     }
     let start = at + head;
     let size = length_at(form, area, at);
     if area.len() - start < size {
-        return at;
+        return None;
     }
-    start + size
+    Some(start + size)
 }
 
 // The field at a place of an area. At the end of the area, and beyond, it is cut.
-pub fn field_in(form: Form, area: &[u8], at: usize) -> FieldResult
+#[tactic(auto, using(crate::proofs::Reading::here))]
+pub fn field_in(form: Form, area: &[u8], at: usize) -> Result<Field, Cut>
     ensures { result ≡ field_in form area.now at }
 {
-    let stop = behind_field(form, area, at);
-    if stop == at {
-        return FieldResult::Cut(at);
-    }
+    let Some(stop) = behind_field(form, area, at) else {
+        return Err(Cut { at });
+    };
     let start = at + form.head_len();
     let tag = tag_at(form, area, at);
-    FieldResult::Field(Field { tag, start, stop })
+    Ok(Field { tag, start, stop })
 }
 
-// The field of a given type that takes all bytes from a place to the area's end.
-pub fn only_field(form: Form, tag: u8, area: &[u8], at: usize) -> OnlyField
+// The field of a given type that takes all bytes from a place to the area's end, unless they are something else.
+pub fn only_field(form: Form, tag: u8, area: &[u8], at: usize) -> Option<Field>
     ensures { result ≡ only_field form tag area.now at }
 {
-    let found = field_in(form, area, at);
-    match found {
-        FieldResult::Cut(_) => OnlyField::Other,
-        FieldResult::Field(field) => {
-            if field.tag != tag {
-                return OnlyField::Other;
-            }
-            if field.stop != area.len() {
-                return OnlyField::Other;
-            }
-            OnlyField::Only(field)
-        }
+    let field = field_in(form, area, at).ok()?;
+    if field.tag == tag && field.stop == area.len() {
+        return Some(field);
     }
+    None
 }
 
 impl Field {
@@ -92,14 +73,6 @@ impl Field {
     pub fn value(self, area: &[u8]) -> &[u8]
         ensures { result.now ≡ value_of self area.now }
     {
-        let start = self.start;
-        let stop = self.stop;
-        if stop < start {
-            return &area[..0];
-        }
-        if area.len() < stop {
-            return &area[..0];
-        }
-        &area[start..stop]
+        area.get(self.start..self.stop).unwrap_or(&[])
     }
 }

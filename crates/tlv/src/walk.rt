@@ -2,62 +2,47 @@
 ghost use Rattle.std.specs.Prelude.{◌≡◌};
 ghost use Rattle.tlv.specs.Walking.{next_field, first_cut};
 
-use crate::{Field, Form, read};
+use crate::{Cut, Field, Form, read};
 
 // A position in an area.
-#[derive(Clone, Copy)]
+#[derive(Clone, Copy, PartialEq, Eq, Hash, Debug)]
 pub struct FieldCursor {
     pub at: usize,
 }
 
-// What stands at a cursor: a field and the cursor behind it, nothing any more, or a field that is cut, with the place of its first byte.
-#[derive(Clone, Copy)]
-pub enum NextField {
-    Field { field: Field, next: FieldCursor },
-    End,
-    Cut(usize),
-}
-
-// Where the first field lies that is cut, if there is one.
-#[derive(Clone, Copy)]
-pub enum FirstCut {
-    At(usize),
-    Nothing,
+// A field that stands at a cursor, and the cursor behind it.
+#[derive(Clone, Copy, PartialEq, Eq, Hash, Debug)]
+pub struct NextField {
+    pub field: Field,
+    pub next: FieldCursor,
 }
 
 impl FieldCursor {
-    pub fn next(self, area: &[u8], form: Form) -> NextField
+    // What stands there: a field, none any more at the area's end, or one that is cut.
+    #[tactic(auto, using(crate::proofs::Walking::next_end, crate::proofs::Walking::read_field, crate::proofs::Walking::read_cut))]
+    pub fn next(self, area: &[u8], form: Form) -> Result<Option<NextField>, Cut>
         ensures { result ≡ next_field form area.now self.at }
     {
-        let at = self.at;
-        if area.len() <= at {
-            return NextField::End;
+        if area.len() <= self.at {
+            return Ok(None);
         }
-        match read::field_in(form, area, at) {
-            read::FieldResult::Field(field) => {
-                let stop = field.stop;
-                NextField::Field {
-                    field,
-                    next: FieldCursor { at: stop },
-                }
-            }
-            read::FieldResult::Cut(place) => NextField::Cut(place),
-        }
+        let field = read::field_in(form, area, self.at)?;
+        let next = FieldCursor { at: field.stop };
+        Ok(Some(NextField { field, next }))
     }
 }
 
-// The walk over all fields from a place on.
-pub fn first_cut(form: Form, area: &[u8], from: usize) -> FirstCut
+// The walk over all fields from a place on: the first that is cut, if there is one.
+#[tactic(auto, using(crate::proofs::Walking::turns))]
+pub fn first_cut(form: Form, area: &[u8], from: usize) -> Result<(), Cut>
     ensures { result ≡ first_cut form area.now from }
 {
     let mut at = from;
-    let mut next = read::behind_field(form, area, at);
-    while at < next {
-        at = next;
-        next = read::behind_field(form, area, at);
+    while let Some(stop) = read::behind_field(form, area, at) {
+        at = stop;
     }
-    if area.len() <= at {
-        return FirstCut::Nothing;
+    if at < area.len() {
+        return Err(Cut { at });
     }
-    FirstCut::At(at)
+    Ok(())
 }

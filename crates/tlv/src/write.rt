@@ -6,19 +6,15 @@ ghost use Rattle.tlv.specs.Writing.{bytes_put, field_put, number_put};
 
 use crate::Form;
 use fields::be;
+use fields::be::MAX_WIDTH;
 
-// The most bytes that a number has.
-const MAX_WIDTH: usize = 8;
-
+// Kept: `store` of receiver is the same. One that is public would have to test the room, or to ask for it, and here it is known.
+#[tactic(auto, using(fields::proofs::Parts::copied))]
 fn copy(buf: &mut [u8], at: usize, bytes: &[u8])
     requires { at + length bytes.now ≤ length buf.old }
     ensures { buf.new ≡ sets buf.old at bytes.now }
 {
-    let mut i = 0;
-    while i < bytes.len() {
-        buf[at + i] = bytes[i];
-        i += 1;
-    }
+    buf[at..at + bytes.len()].copy_from_slice(bytes);
 }
 
 // Whether so many bytes from a place on lie in a slice of `len` bytes.
@@ -32,6 +28,7 @@ fn has_room(len: usize, at: usize, size: usize) -> bool
 }
 
 // Stores `bytes` from `at` on. Where they do not all lie in `buf`, no byte changes.
+#[tactic(auto, unfolding(crate::specs::Writing::bytes_put))]
 pub fn put_bytes(buf: &mut [u8], at: usize, bytes: &[u8])
     ensures { buf.new ≡ bytes_put buf.old at bytes.now }
 {
@@ -56,6 +53,7 @@ fn store_field(form: Form, buf: &mut [u8], at: usize, tag: u8, value: &[u8])
 
 // Stores a field from `at` on: its type, if the form has one, the length of its value, the value. Where these do not all lie in `buf`, or the
 // value is longer than the form can say, no byte changes.
+#[tactic(auto, using(fields::proofs::Width::fits_lt), unfolding(crate::specs::Writing::field_put))]
 pub fn put_field(form: Form, buf: &mut [u8], at: usize, tag: u8, value: &[u8])
     ensures { buf.new ≡ field_put form buf.old at tag value.now }
 {

@@ -1,22 +1,15 @@
 -- `cfdp::compare::cfdp_nak_compare_normal` meets its contract: what comparing with normal pairs says, of the header that was given.
-use mathlib.Core.Path.{sym, ap, ◌∙◌}
+use mathlib.Core.Path.{ap, ◌∙◌}
+use Rattle.std.proofs.Common.{rules}
 use Rattle.header.specs.declared.flags.LargeFileFlag.TheVariants.{Normal}
 use Rattle.header.specs.declared.PduHeader.{PduHeader}
-use Rattle.header.specs.Answers.{header_answer}
 use Rattle.cfdp.specs.Shown.{shown, verdict_number}
-use Rattle.cfdp.proofs.Given.{none_compared, given_compared}
+use Rattle.cfdp.proofs.Given.{compared}
 use Rattle.cfdp.proofs.compare.cfdp_nak_compare_normal.Goals as goal
 
-pub returns-in-Refused : goal.returns-in-Refused
-returns-in-Refused c =
-    let header-from = c.header_from-joined in
-    let reader-first = c.reader_first in
-    none_compared _ c.in-Refused.refusal _ _ _ _ (ap header_answer (sym c.in-Refused.is) ∙ header-from.ensures) reader-first.ensures
-    c.show_refusal.ensures
-
-pub returns-in-Header : goal.returns-in-Header
-returns-in-Header c =
-    let header-from = c.header_from-joined in
-    let compare-normal-file-size = c.compare_normal_file_size-compared in
-    given_compared (λ (h : PduHeader). Normal) _ _ _ _ _ _ _ (ap header_answer (sym c.in-Header.is) ∙ header-from.ensures)
-    (c.show_verdict.ensures ∙ ap (shown verdict_number) compare-normal-file-size.ensures)
+pub returns : goal.returns
+returns c =
+    c.show.ensures
+    ∙ ap (shown verdict_number)
+    (compared (λ (h : PduHeader). Normal) _ _ _ _ _ _ _ _ _ _ c.header_from.ensures c.map_err-joined.ensures.cases (λ q p f. search rules) (λ h m. search rules)
+    c.and_then-compared.ensures)

@@ -1,21 +1,11 @@
 -- `cfdp::metadatas::cfdp_metadata_write` meets its contract: what the writer says and stores, of the header that was given.
-use mathlib.Core.Path.{sym, ap, ◌∙◌}
-use Rattle.header.specs.Answers.{header_answer}
+use mathlib.Core.Path.{ap, ◌∙◌}
+use Rattle.std.proofs.Common.{rules}
 use Rattle.cfdp.specs.Shown.{shown, written_numbers}
-use Rattle.cfdp.proofs.Given.{none_shown, none_left, given_shown, given_left}
+use Rattle.cfdp.proofs.Given.{lent}
 use Rattle.cfdp.proofs.metadatas.cfdp_metadata_write.Goals as goal
 
-pub returns-in-Refused : goal.returns-in-Refused
-returns-in-Refused c =
-    let header-from = c.header_from-joined in
-    record { answered = none_shown written_numbers _ _ _ _ (ap header_answer (sym c.in-Refused.is) ∙ header-from.ensures) c.show_refusal.ensures; stored = none_left _ _ _ _ (ap header_answer (sym c.in-Refused.is) ∙ header-from.ensures) }
-
-pub returns-in-Header : goal.returns-in-Header
-returns-in-Header c =
-    let header-from = c.header_from-joined in
-    let write-to-slice = c.write_to_slice-written in
-    record {
-      answered = given_shown written_numbers _ _ _ _ (ap header_answer (sym c.in-Header.is) ∙ header-from.ensures)
-          (c.show_written.ensures ∙ ap (shown written_numbers) write-to-slice.ensures.answered);
-      stored = given_left _ _ _ _ _ (ap header_answer (sym c.in-Header.is) ∙ header-from.ensures) write-to-slice.ensures.stored;
-    }
+pub returns : goal.returns
+returns c =
+    let p = lent _ _ _ _ _ _ _ _ c.header_from-joined.ensures (λ h m. (search rules, search rules)) c.with_header-written.ensures in
+    record { answered = c.show.ensures ∙ ap (shown written_numbers) p.0; stored = p.1 }

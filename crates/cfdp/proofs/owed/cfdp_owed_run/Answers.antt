@@ -4,12 +4,12 @@ use Rattle.ranges.specs.Log.{stop_answer}
 use Rattle.cfdp.proofs.Standing.{refused_standing, ended_standing}
 use Rattle.cfdp.proofs.owed.cfdp_owed_run.Goals as goal
 
-pub returns-in-Refused : goal.returns-in-Refused
-returns-in-Refused c =
+pub returns-in-Err : goal.returns-in-Err
+returns-in-Err c =
     let run = c.run-ran in
-    record { answered = refused_standing _ _ _ _ (ap stop_answer (sym c.in-Refused.is) ∙ run.ensures.answered) c.show_refusal.ensures; stored = run.ensures.stored }
+    record { answered = refused_standing _ _ _ _ (ap stop_answer (sym c.in-Err.is) ∙ run.ensures.answered) c.show_refusal.ensures; stored = run.ensures.stored }
 
-pub returns-in-End : goal.returns-in-End
-returns-in-End c =
+pub returns-in-Ok : goal.returns-in-Ok
+returns-in-Ok c =
     let run = c.run-ran in
-    record { answered = ended_standing _ _ _ (ap stop_answer (sym c.in-End.is) ∙ run.ensures.answered) c.show_few.ensures; stored = run.ensures.stored }
+    record { answered = ended_standing _ _ _ (ap stop_answer (sym c.in-Ok.is) ∙ run.ensures.answered) c.show_few.ensures; stored = run.ensures.stored }

@@ -9,7 +9,7 @@ use Rattle.cfdp.proofs.read.cfdp_nak_pairs.Given as goal
 
 abbrev pub invariant-loop-i : goal.invariant-loop-i
 invariant-loop-i l =
-    (l.i ≤ length (take l.room (pairs_in l.large l.area))) × (length l.numbers ≡ length l.initial.numbers) × (sets l.numbers (2 * l.i) (flat (drop l.i (take l.room (pairs_in l.large l.area)))) ≡ sets l.initial.numbers 0 (flat (take l.room (pairs_in l.large l.area))))
+    (l.i ≤ length (take l.room (pairs_in l.large l.area))) × (sets l.numbers (2 * l.i) (flat (drop l.i (take l.room (pairs_in l.large l.area)))) ≡ sets l.initial.numbers 0 (flat (take l.room (pairs_in l.large l.area))))
 
 abbrev pub decreases-loop-i : goal.decreases-loop-i
 decreases-loop-i l = l.room - l.i

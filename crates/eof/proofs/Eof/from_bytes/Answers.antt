@@ -1,35 +1,15 @@
 -- `eof::Eof::from_bytes` meets its contract: the refusal of the PDU, or what its data say.
-use mathlib.Core.Path.{sym, ap, ◌∙◌}
-use Rattle.header.specs.Answers.{directive_answer}
-use Rattle.eof.proofs.Data.{refused_eof, read_eof}
+use Rattle.eof.proofs.Data.{read_eof}
 use Rattle.eof.proofs.Eof.from_bytes.Goals as goal
 
 pub slice_bounds-eof_in-count : goal.slice_bounds-eof_in-count
 slice_bounds-eof_in-count c =
-    let from_bytes = c.from_bytes-read in
-    (read_eof _ _ _ (ap directive_answer (sym c.in-Directive.is) ∙ from_bytes.ensures) c.header_len-at.ensures.0).0.before
+    (read_eof _ _ _ c.in_ok-pdu.ensures c.header_len-at.ensures.0).0.before
 
 pub slice_bounds-eof_in-start : goal.slice_bounds-eof_in-start
 slice_bounds-eof_in-start c =
-    let from_bytes = c.from_bytes-read in
-    (read_eof _ _ _ (ap directive_answer (sym c.in-Directive.is) ∙ from_bytes.ensures) c.header_len-at.ensures.0).0.before
+    (read_eof _ _ _ c.in_ok-pdu.ensures c.header_len-at.ensures.0).0.before
 
 pub slice_bounds-eof_in-end : goal.slice_bounds-eof_in-end
 slice_bounds-eof_in-end c =
-    let from_bytes = c.from_bytes-read in
-    (read_eof _ _ _ (ap directive_answer (sym c.in-Directive.is) ∙ from_bytes.ensures) c.header_len-at.ensures.0).0.inside
-
-pub eof_in-requires : goal.eof_in-requires
-eof_in-requires c =
-    let from_bytes = c.from_bytes-read in
-    let k = (read_eof _ _ _ (ap directive_answer (sym c.in-Directive.is) ∙ from_bytes.ensures) c.header_len-at.ensures.0).0 in
-    (k.stop_is, k.size)
-
-pub returns-in-Refused : goal.returns-in-Refused
-returns-in-Refused c = refused_eof _ _ (ap directive_answer (sym c.in-Refused.is) ∙ c.from_bytes-read.ensures)
-
-pub returns-in-Directive : goal.returns-in-Directive
-returns-in-Directive c =
-    let from_bytes = c.from_bytes-read in
-    let header-len = c.header_len-at in
-    c.eof_in.ensures ∙ (read_eof _ _ _ (ap directive_answer (sym c.in-Directive.is) ∙ from_bytes.ensures) header-len.ensures.0).1
+    (read_eof _ _ _ c.in_ok-pdu.ensures c.header_len-at.ensures.0).0.inside

@@ -1,18 +1,16 @@
 -- `fields::be::put_number` meets its contract. The loop's invariant: to write what is left gives what is to be written.
-use mathlib.Core.Path.{◌∙◌}
+use mathlib.Core.Path.{◌≡◌, ◌∙◌}
 use native.Mathlib.Omega.{arith}
-use borrow.Author.Rules.{rules}
-use lib.ListN.{length-set}
 use Rattle.fields.proofs.BigEndian.{put_turn, put_done}
 use Rattle.fields.proofs.be.put_number.Goals as goal
 
-pub loop-left-preserved : goal.loop-left-preserved
-loop-left-preserved c =
-    let l = c.loop-left in (
-      search rules,
-      simp length-set (search rules),
-      put_turn l.buf c.args.at l.left l.v (search rules) (omega arith) ∙ l.invariant.2,
-    )
+pub loop-i-preserved : goal.loop-i-preserved
+loop-i-preserved c =
+    let l = c.loop-i in
+    put_turn l.buf c.args.at l.i l.v c.loop-i-test.true (omega arith) ∙ l.invariant
 
 pub returns : goal.returns
-returns c = put_done _ _ _ _ _ (omega arith) c.loop-left.invariant.2
+returns c =
+    let l = c.loop-i in
+    let e : l.i ≡ 0 = omega arith in
+    put_done l.buf c.args.at l.v ∙ (rw e at l.invariant)

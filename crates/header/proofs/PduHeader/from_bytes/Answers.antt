@@ -2,22 +2,17 @@
 use mathlib.Core.Path.{sym, ap, ◌∙◌}
 use lib.Seq.{length-take-le}
 use Rattle.fields.specs.Answer.{accepted}
+use Rattle.fields.proofs.Handed.{handed_on}
 use Rattle.header.proofs.PduHeader.from_bytes.Goals as goal
 
 pub slice_bounds-header_in-end : goal.slice_bounds-header_in-end
-slice_bounds-header_in-end c =
-    let length-in = c.length_in-length in
-    let m = rw c.in-Length.is at length-in.ensures in
-    sym (length-take-le _ _ m.0)
+slice_bounds-header_in-end c = sym (length-take-le _ _ c.in_ok-len.ensures.0)
 
 pub header_in-requires : goal.header_in-requires
-header_in-requires c = let m = rw c.in-Length.is at c.length_in-length.ensures in m.1
+header_in-requires c = c.in_ok-len.ensures.1
 
-pub returns-in-Refused : goal.returns-in-Refused
-returns-in-Refused c = rw c.in-Refused.is at c.length_in-length.ensures
+pub returns-in_err-len : goal.returns-in_err-len
+returns-in_err-len c = handed_on _ _ c.from_residual.ensures.1 ∙ c.in_err-len.ensures
 
-pub returns-in-Length : goal.returns-in-Length
-returns-in-Length c =
-    let length-in = c.length_in-length in
-    let m = rw c.in-Length.is at length-in.ensures in
-    ap accepted c.header_in.ensures ∙ m.2
+pub returns : goal.returns
+returns c = ap accepted c.header_in.ensures ∙ c.in_ok-len.ensures.2

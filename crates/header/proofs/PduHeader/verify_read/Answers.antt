@@ -2,12 +2,12 @@
 use mathlib.Core.Path.{sym, ap, ◌∙◌}
 use native.Mathlib.Omega.{arith}
 use lib.Seq.{length-take-le}
-use Rattle.header.specs.Answers.{length_answer}
+use Rattle.fields.specs.Answer.{answer_of}
 use Rattle.header.proofs.Verifying.{at_least, short_p, no_checksum, bad_checksum, good_checksum}
 use Rattle.header.proofs.PduHeader.verify_read.Goals as goal
 
 pub returns-then-buf-len : goal.returns-then-buf-len
-returns-then-buf-len c = ap length_answer c.short.ensures ∙ short_p _ _ _ c.pdu_len-len.ensures.0 c.if-buf-len.true
+returns-then-buf-len c = ap answer_of c.short.ensures ∙ short_p _ _ _ c.pdu_len-len.ensures.0 c.if-buf-len.true
 
 pub returns-in-NoCrc : goal.returns-in-NoCrc
 returns-in-NoCrc c = no_checksum _ _ _ c.pdu_len-len.ensures.0 c.if-buf-len.false c.in-NoCrc.is

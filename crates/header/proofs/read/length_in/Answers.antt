@@ -1,10 +1,10 @@
 -- `header::read::length_in` meets its contract: each exit's answer is the stages'.
 use Prim.Native.Nat.{◌+◌, ◌*◌}
-use mathlib.Core.Path.{sym, ap, ◌∙◌}
+use mathlib.Core.Path.{sym, ◌∙◌}
 use native.Mathlib.Omega.{arith}
 use lib.Seq.{length-take-le}
+use Rattle.fields.proofs.Handed.{handed}
 use Rattle.fields.proofs.Judging.{passed}
-use Rattle.header.specs.Answers.{judged_answer}
 use Rattle.header.specs.Judging.{width_tests}
 use Rattle.header.proofs.Reading.{short_4, bad_version, bad_widths, short_h, whole, holds}
 use Rattle.header.proofs.read.length_in.Goals as goal
@@ -31,38 +31,28 @@ bounds-fixed-3-2 c =
     let a = c.args in
     omega (arith, length-take-le 4 a.buf.now (omega arith))
 
-pub returns-in-Refused : goal.returns-in-Refused
-returns-in-Refused c =
-    let three-at = c.three_at-version in
-    let width-at = c.width_at-entity in
-    let judge-widths = c.judge_widths-judged in
-    bad_widths _ (omega arith) (sym three-at.ensures ∙ c.if-version-ne-CFDP_VERSION_2.false) _ _ width-at.ensures.0 (omega arith) _
-    (ap judged_answer (sym c.in-Refused.is) ∙ judge-widths.ensures)
+pub returns-in_err-judge_widths : goal.returns-in_err-judge_widths
+returns-in_err-judge_widths c =
+    rw (handed _ _ c.from_residual.ensures.1)
+    (bad_widths _ (omega arith) (sym c.three_at-version.ensures ∙ c.if-version-ne-CFDP_VERSION_2.false) _ _ c.width_at-entity.ensures.0 (omega arith) _
+    c.in_err-judge_widths.ensures)
 
 pub returns-then-n-len : goal.returns-then-n-len
 returns-then-n-len c =
-    let three-at = c.three_at-version in
-    let width-at = c.width_at-entity in
-    let width-at2 = c.width_at-sequence in
-    let judge-widths = c.judge_widths-judged in
     rw c.short-then-n-len.ensures
-    (short_h _ (omega arith) (sym three-at.ensures ∙ c.if-version-ne-CFDP_VERSION_2.false) width-at.result width-at2.result width-at.ensures.0
+    (short_h _ (omega arith) (sym c.three_at-version.ensures ∙ c.if-version-ne-CFDP_VERSION_2.false) c.width_at-entity.result c.width_at-sequence.result c.width_at-entity.ensures.0
     (omega arith)
-    (passed (width_tests width-at.result width-at2.result) tt tt (ap judged_answer (sym c.in_default.is) ∙ judge-widths.ensures)).0 _
+    (passed (width_tests c.width_at-entity.result c.width_at-sequence.result) tt tt c.in_ok-judge_widths.ensures).0 _
     (omega arith) c.if-n-len.true)
 
 pub returns : goal.returns
 returns c =
-    let width-at = c.width_at-entity in
-    let width-at2 = c.width_at-sequence in
     let a = c.args in
-    let three-at = c.three_at-version in
-    let judge-widths = c.judge_widths-judged in
-    let h = 4 + 2 * width-at.result + width-at2.result in (
+    let h = 4 + 2 * c.width_at-entity.result + c.width_at-sequence.result in (
       omega arith,
       holds a.buf.now h (omega arith) (omega arith),
-      whole _ (omega arith) (sym three-at.ensures ∙ c.if-version-ne-CFDP_VERSION_2.false) width-at.result width-at2.result width-at.ensures.0
+      whole _ (omega arith) (sym c.three_at-version.ensures ∙ c.if-version-ne-CFDP_VERSION_2.false) c.width_at-entity.result c.width_at-sequence.result c.width_at-entity.ensures.0
           (omega arith)
-          (passed (width_tests width-at.result width-at2.result) tt tt (ap judged_answer (sym c.in_default.is) ∙ judge-widths.ensures)).0 h
+          (passed (width_tests c.width_at-entity.result c.width_at-sequence.result) tt tt c.in_ok-judge_widths.ensures).0 h
           (omega arith) (omega arith),
     )

@@ -1,13 +1,13 @@
 -- `listing::pdus::list` meets its contract: the NAK's reader decides, or names the directive.
 use mathlib.Core.Path.{sym, ap, ◌∙◌}
-use Rattle.nak.specs.Reading.{nak_answer}
+use Rattle.fields.specs.Answer.{answer_of}
 use Rattle.listing.proofs.Deciding.{other_listed, nak_listed}
 use Rattle.listing.proofs.pdus.list.Goals as goal
 
-pub returns-in-Refused : goal.returns-in-Refused
-returns-in-Refused c =
+pub returns-in-Err : goal.returns-in-Err
+returns-in-Err c =
     let from_bytes = c.from_bytes-read in
-    other_listed c.in-Refused.refusal _ _ c.list_other.ensures (ap nak_answer (sym c.in-Refused.is) ∙ from_bytes.ensures)
+    other_listed c.in-Err.refusal _ _ c.list_other.ensures (ap answer_of (sym c.in-Err.is) ∙ from_bytes.ensures)
 
-pub returns-in-Nak : goal.returns-in-Nak
-returns-in-Nak c = nak_listed _ _ (ap nak_answer (sym c.in-Nak.is) ∙ c.from_bytes-read.ensures)
+pub returns-in-Ok : goal.returns-in-Ok
+returns-in-Ok c = nak_listed _ _ (ap answer_of (sym c.in-Ok.is) ∙ c.from_bytes-read.ensures)

@@ -1,9 +1,9 @@
 -- `nak::reserve::pairs_length` meets its contract: 10, or the length of so many pairs.
-use mathlib.Core.Path.{sym, ap, ◌∙◌}
+use mathlib.Core.Path.{ap, ◌∙◌}
 use mathlib.Core.List.{[], ◌∷◌}
 use Rattle.fields.specs.Answer.{accepted}
+use Rattle.fields.proofs.Handed.{handed_on}
 use Rattle.fields.proofs.Judging.{judged_passed}
-use Rattle.header.specs.Answers.{judged_answer}
 use Rattle.nak.specs.Writing.{too_many}
 use Rattle.nak.proofs.Tests.{pairs_fit, reserve_refused, reserve_passes}
 use Rattle.nak.proofs.reserve.pairs_length.Goals as goal
@@ -11,19 +11,10 @@ use Rattle.nak.proofs.reserve.pairs_length.Goals as goal
 pub length_of-requires : goal.length_of-requires
 length_of-requires c =
     let a = c.args in
-    let judge-pairs = c.judge_pairs-few in
-    pairs_fit a.file a.pairs
-    (judged_passed (too_many a.file a.pairs ∷ []) (ap judged_answer (sym c.in-Passed.is) ∙ judge-pairs.ensures))
+    pairs_fit a.file a.pairs (judged_passed (too_many a.file a.pairs ∷ []) c.in_ok-judge_pairs.ensures)
 
-pub returns-in-Refused : goal.returns-in-Refused
-returns-in-Refused c =
-    let a = c.args in
-    let judge-pairs = c.judge_pairs-few in
-    reserve_refused _ a.file a.pairs _ (ap judged_answer (sym c.in-Refused.is) ∙ judge-pairs.ensures)
+pub returns-in_err-judge_pairs : goal.returns-in_err-judge_pairs
+returns-in_err-judge_pairs c = handed_on _ _ c.from_residual.ensures.1 ∙ reserve_refused _ c.args.file c.args.pairs _ c.in_err-judge_pairs.ensures
 
-pub returns-in-Passed : goal.returns-in-Passed
-returns-in-Passed c =
-    let a = c.args in
-    let judge-pairs = c.judge_pairs-few in
-    ap accepted c.length_of.ensures
-    ∙ reserve_passes _ a.file a.pairs (ap judged_answer (sym c.in-Passed.is) ∙ judge-pairs.ensures)
+pub returns : goal.returns
+returns c = ap accepted c.length_of.ensures ∙ reserve_passes _ c.args.file c.args.pairs c.in_ok-judge_pairs.ensures

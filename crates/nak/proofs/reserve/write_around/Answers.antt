@@ -1,6 +1,6 @@
 -- `nak::reserve::write_around` meets its contract: the NAK around the requests, or no byte changed.
-use mathlib.Core.Path.{sym, ap, ◌∙◌}
-use Rattle.header.specs.Answers.{length_answer}
+use mathlib.Core.Path.{◌∙◌}
+use Rattle.fields.proofs.Handed.{handed_on}
 use Rattle.nak.specs.Reserving.{placed}
 use Rattle.nak.proofs.Reserving.{not_finished, finish_goes, finished}
 use Rattle.nak.proofs.reserve.write_around.Goals as goal
@@ -8,33 +8,22 @@ use Rattle.nak.proofs.reserve.write_around.Goals as goal
 pub put_scope-requires : goal.put_scope-requires
 put_scope-requires c =
     let a = c.args in
-    let towards-sender = c.towards_sender in
-    let finished-length = c.finished_length-own in
-    let with-data = c.with_data-header in
-    let begin-write = c.begin_write-begun in
-    finish_goes (placed a.header a.pairs) a.start a.end a.buf.now _ towards-sender.ensures _ finished-length.ensures _ with-data.ensures _ _
-    (ap length_answer (sym c.in-Length.is) ∙ begin-write.ensures.answered) begin-write.ensures.stored
+    let begun = c.in_ok-length.ensures in
+    finish_goes (placed a.header a.pairs) a.start a.end a.buf.now _ c.towards_sender.ensures _ c.finished_length-own.ensures _
+    c.with_data-header.ensures _ _ begun.answered begun.stored
 
-pub returns-in-Refused : goal.returns-in-Refused
-returns-in-Refused c =
+pub returns-in_err-length : goal.returns-in_err-length
+returns-in_err-length c =
     let a = c.args in
-    let towards-sender = c.towards_sender in
-    let finished-length = c.finished_length-own in
-    let with-data = c.with_data-header in
-    let begin-write = c.begin_write-begun in
-    let both = not_finished (placed a.header a.pairs) _ _ _ _ towards-sender.ensures _ finished-length.ensures _ with-data.ensures _ _
-    (ap length_answer (sym c.in-Refused.is) ∙ begin-write.ensures.answered) begin-write.ensures.stored in
-    record { answered = both.0; stored = both.1 }
+    let begun = c.in_err-length.ensures in
+    let both = not_finished (placed a.header a.pairs) _ _ _ _ c.towards_sender.ensures _ c.finished_length-own.ensures _
+    c.with_data-header.ensures _ _ begun.answered begun.stored in
+    record { answered = handed_on _ _ c.from_residual.ensures.1 ∙ both.0; stored = both.1 }
 
-pub returns-in-Length : goal.returns-in-Length
-returns-in-Length c =
+pub returns : goal.returns
+returns c =
     let a = c.args in
-    let towards-sender = c.towards_sender in
-    let finished-length = c.finished_length-own in
-    let with-data = c.with_data-header in
-    let begin-write = c.begin_write-begun in
-    let put-scope = c.put_scope in
-    let seal = c.seal in
-    let both = finished (placed a.header a.pairs) _ _ _ _ towards-sender.ensures _ finished-length.ensures _ with-data.ensures _ _
-    (ap length_answer (sym c.in-Length.is) ∙ begin-write.ensures.answered) begin-write.ensures.stored _ _ put-scope.ensures seal.ensures in
+    let begun = c.in_ok-length.ensures in
+    let both = finished (placed a.header a.pairs) _ _ _ _ c.towards_sender.ensures _ c.finished_length-own.ensures _
+    c.with_data-header.ensures _ _ begun.answered begun.stored _ _ c.put_scope.ensures c.seal.ensures in
     record { answered = both.0; stored = both.1 }

@@ -1,63 +1,17 @@
--- `plan::gaps::are_gaps` meets its contract. The loop's invariant: what is left of the requests is what is left of the gaps exactly where the whole is.
-use mathlib.Core.Path.{refl, sym, ◌∙◌}
-use native.Mathlib.Omega.{arith}
-use lib.ListN.{drop}
-use Rattle.ranges.specs.Pairs.{twos}
-use Rattle.plan.specs.Gaps.{gaps}
-use Rattle.plan.proofs.GapLaws.{same_end, same_lack, same_from, same_to, same_on}
+-- `plan::gaps::are_gaps` meets its contract. The pairs of the requests beside the gaps.
+use Rattle.std.proofs.Common.{◌≡◌, rules, tests, get_or, ap}
+use Rattle.std.proofs.lemmas.Iterator.{YieldsList-from_slice, YieldsList-from_map}
+use Rattle.std.proofs.lemmas.Iterator.Consumers.{YieldsList-at, YieldsList-from_first}
+use Rattle.plan.specs.declared.gaps.Gaps.{Gaps}
+use Rattle.plan.specs.Gaps.{gaps, pairs}
+use Rattle.plan.proofs.GapLaws.{same_from_yields}
 use Rattle.plan.proofs.gaps.are_gaps.Goals as goal
 
-pub loop-gap-init : goal.loop-gap-init
-loop-gap-init c = (omega arith, omega arith, refl)
-
-pub returns-then-gap : goal.returns-then-gap
-returns-then-gap c =
-    let l = c.loop-gap in
-    let a = c.args in
-    let g = c.next_gap-gap in
-    sym
-    (same_end a.requests.now l.k (gaps l.at a.stop (twos (drop l.i a.received.now))) _ _ _ g.ensures.0 c.if-gap.true)
-    ∙ l.invariant.2
-
-pub returns-then-requests-k-lt2 : goal.returns-then-requests-k-lt2
-returns-then-requests-k-lt2 c =
-    let l = c.loop-gap in
-    let a = c.args in
-    let g = c.next_gap-gap in
-    sym
-    (same_lack a.requests.now l.k (gaps l.at a.stop (twos (drop l.i a.received.now))) _ _ _ g.ensures.0
-    c.if-gap.false c.if-requests-k-lt2.true)
-    ∙ l.invariant.2
-
-pub returns-then-requests-k : goal.returns-then-requests-k
-returns-then-requests-k c =
-    let l = c.loop-gap in
-    let a = c.args in
-    let g = c.next_gap-gap in
-    sym
-    (same_from a.requests.now l.k (gaps l.at a.stop (twos (drop l.i a.received.now))) _ _ _ g.ensures.0 c.if-gap.false
-    c.if-requests-k-lt2.false c.if-requests-k.true)
-    ∙ l.invariant.2
-
-pub returns-then-requests-k-2 : goal.returns-then-requests-k-2
-returns-then-requests-k-2 c =
-    let l = c.loop-gap in
-    let a = c.args in
-    let g = c.next_gap-gap in
-    sym
-    (same_to a.requests.now l.k (gaps l.at a.stop (twos (drop l.i a.received.now))) _ _ _ g.ensures.0 c.if-gap.false
-    c.if-requests-k-lt2.false c.if-requests-k-2.true)
-    ∙ l.invariant.2
-
-pub loop-gap-preserved : goal.loop-gap-preserved
-loop-gap-preserved c =
-    let l = c.loop-gap in
-    let a = c.args in
-    let g = c.next_gap-gap in (
-      g.ensures.1,
-      omega arith,
-      sym
-          (same_on a.requests.now l.k (gaps l.at a.stop (twos (drop l.i a.received.now))) _ _ _ g.ensures.0 c.if-gap.false
-          c.if-requests-k-lt2.false c.if-requests-k.false c.if-requests-k-2.false)
-          ∙ l.invariant.2,
-    )
+pub returns : goal.returns
+returns c =
+    let m = c.args.missing in
+    same_from_yields (λ (x y : Gaps). y ≡ x) m c.eq.result c.eq.ensures.ran
+    (YieldsList-from_map _ (λ x. (get_or x 0 0, get_or x 1 0)) (YieldsList-at c.map.ensures.source (YieldsList-from_slice c.args.requests.now (cc))) c.map.ensures.closure (λ x r q k. search (rules, tests)))
+    (λ it e. YieldsList-from_first (λ x. x) (λ (s : Gaps). gaps s.at s.stop (pairs s.received.now)) (gaps m.at m.stop (pairs m.received.now))
+    (ap (λ (s : Gaps). gaps s.at s.stop (pairs s.received.now)) {x = it} {y = m} e))
+    (λ x y. search (rules, tests))

@@ -1,29 +1,14 @@
--- `plan::naks::each_fits` meets its contract. The loop's invariant: the NAKs left fit exactly where all do.
-use mathlib.Core.Path.{refl, sym, ◌∙◌}
-use native.Mathlib.Omega.{arith}
-use Rattle.plan.proofs.Walks.{fits_end, fits_not, fits_on}
-use borrow.Author.Rules.{rules}
+-- `plan::naks::each_fits` meets its contract. All of the arrays.
+use Rattle.std.proofs.Common.{rules, tests, get_or, ◌∙◌}
+use lib.Dec.{leb}
+use Rattle.std.proofs.lemmas.Iterator.{YieldsList-from_slice}
+use Rattle.std.proofs.lemmas.Iterator.Search.{all_from_yields_List}
+use Rattle.plan.proofs.Arrays.{all_fit}
 use Rattle.plan.proofs.naks.each_fits.Goals as goal
-
-pub loop-i-init : goal.loop-i-init
-loop-i-init c = (search rules, refl)
-
-pub returns-then-most-naks : goal.returns-then-most-naks
-returns-then-most-naks c =
-    let loop-test = c.loop-i-test in
-    let l = c.loop-i in
-    let a = c.args in
-    sym (fits_not a.naks.now l.i a.most loop-test.true c.if-most-naks.true) ∙ l.invariant.1
-
-pub loop-i-preserved : goal.loop-i-preserved
-loop-i-preserved c =
-    let loop-test = c.loop-i-test in
-    let l = c.loop-i in
-    let a = c.args in
-    (omega arith, sym (fits_on a.naks.now l.i a.most loop-test.true c.if-most-naks.false) ∙ l.invariant.1)
 
 pub returns : goal.returns
 returns c =
-    let l = c.loop-i in
     let a = c.args in
-    sym (fits_end a.naks.now l.i a.most c.loop-i-test.false) ∙ l.invariant.1
+    all_from_yields_List (λ x. leb (get_or x 2 0) a.most) _ _ _ c.all.ensures.ran (YieldsList-from_slice a.naks.now (cc))
+    (λ x b q k. search (rules, tests))
+    ∙ all_fit a.most a.naks.now

@@ -1,13 +1,9 @@
--- `plan::naks::each_within` meets its contract. The loop's invariant: of the NAKs and requests left it holds exactly where it holds of all.
+-- `plan::naks::each_within` meets its contract. The loop's invariant: the NAKs that are left decide, with the requests that are left.
 use mathlib.Core.Path.{◌≡◌}
-use Prim.Native.Nat.{◌-◌, ◌≤◌}
-use lib.ListN.{length, drop}
-use Rattle.ranges.specs.Pairs.{twos}
-use Rattle.plan.specs.Plans.{threes, each_within}
+use lib.ListN.{drop}
+use Rattle.plan.specs.Plans.{each_within}
+use Rattle.plan.specs.Gaps.{pairs, naks_of}
 use Rattle.plan.proofs.naks.each_within.Given as goal
 
-abbrev pub invariant-loop-i : goal.invariant-loop-i
-invariant-loop-i l = (l.i ≤ length l.naks) × (l.k ≤ length l.requests) × (each_within (threes (drop l.i l.naks)) (twos (drop l.k l.requests)) ≡ each_within (threes l.naks) (twos l.requests))
-
-abbrev pub decreases-loop-i : goal.decreases-loop-i
-decreases-loop-i l = length l.naks - l.i
+abbrev pub invariant-loop-start : goal.invariant-loop-start
+invariant-loop-start l = each_within (naks_of (drop l.start-index l.naks)) (pairs l.rest) ≡ each_within (naks_of l.naks) (pairs l.requests)

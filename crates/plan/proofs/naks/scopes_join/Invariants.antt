@@ -1,12 +1,9 @@
--- `plan::naks::scopes_join` meets its contract. The loop's invariant: the scopes left join up exactly where all do.
+-- `plan::naks::scopes_join` meets its contract. The loop's invariant: the scopes that are left decide, from the last end on.
 use mathlib.Core.Path.{◌≡◌}
-use Prim.Native.Nat.{◌-◌, ◌≤◌}
-use lib.ListN.{length, drop}
-use Rattle.plan.specs.Plans.{threes, join_from, scopes_join}
+use lib.ListN.{drop}
+use Rattle.plan.specs.Plans.{join_from}
+use Rattle.plan.specs.Gaps.{naks_of}
 use Rattle.plan.proofs.naks.scopes_join.Given as goal
 
-abbrev pub invariant-loop-i : goal.invariant-loop-i
-invariant-loop-i l = (l.i ≤ length l.naks) × (join_from l.at l.end (threes (drop l.i l.naks)) ≡ scopes_join l.start l.end (threes l.naks))
-
-abbrev pub decreases-loop-i : goal.decreases-loop-i
-decreases-loop-i l = length l.naks - l.i
+abbrev pub invariant-loop-from : goal.invariant-loop-from
+invariant-loop-from l = join_from l.at l.end (naks_of (drop l.from-index l.naks)) ≡ join_from l.start l.end (naks_of l.naks)

@@ -1,28 +1,23 @@
 -- `plan::planner::plan` meets its contract. A refused judgement changes nothing.
 use mathlib.Core.Path.{sym, ap, ◌∙◌}
-use Rattle.nak.specs.Counting.{count_answer}
+use Rattle.fields.specs.Answer.{answer_of}
+use Rattle.fields.proofs.Handed.{handed_on}
 use Rattle.plan.proofs.Judging.{good}
 use Rattle.plan.proofs.Planning.{plan_refused, plan_judged}
 use Rattle.plan.proofs.planner.plan.Goals as goal
 
 pub plan_with-requires : goal.plan_with-requires
 plan_with-requires c =
-    let judge = c.judge-judged in
-    (good _ _ _ _ _ _ _ (ap count_answer (sym c.in-Count.is) ∙ judge.ensures)).are_apart
+    (good _ _ _ _ _ _ _ c.in_ok-most.ensures).are_apart
 
-pub returns-in-Refused : goal.returns-in-Refused
-returns-in-Refused c =
-    let judge = c.judge-judged in
+pub returns-in_err-most : goal.returns-in_err-most
+returns-in_err-most c =
     let a = c.args in
-    let both = plan_refused a.header a.size a.received.now a.start a.«end» a.requests.now a.naks.now _
-    (ap count_answer (sym c.in-Refused.is) ∙ judge.ensures) in
-    record { answered = both.0; requested = both.1.0; dealt = both.1.1 }
+    let all = plan_refused a.header a.size a.received.now a.start a.«end» a.requests.now a.naks.now _ c.in_err-most.ensures in
+    record { answered = handed_on _ _ c.from_residual.ensures.1 ∙ all.answered; requested = all.requested; dealt = all.dealt }
 
-pub returns-in-Count : goal.returns-in-Count
-returns-in-Count c =
-    let judge = c.judge-judged in
-    let plan-with = c.plan_with in
+pub returns : goal.returns
+returns c =
     let a = c.args in
-    let both = plan_judged a.header a.size a.received.now a.start a.«end» a.requests.now a.naks.now _ _ _ _
-    (ap count_answer (sym c.in-Count.is) ∙ judge.ensures) (plan-with.ensures.answered, (plan-with.ensures.requested, plan-with.ensures.dealt)) in
-    record { answered = both.0; requested = both.1.0; dealt = both.1.1 }
+    plan_judged a.header a.size a.received.now a.start a.«end» a.requests.now a.naks.now _ _ _ _
+    c.in_ok-most.ensures c.plan_with.ensures

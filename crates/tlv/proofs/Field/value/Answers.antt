@@ -1,12 +1,10 @@
 -- `tlv::Field::value` meets its contract: the part of the bytes, or none.
-use Rattle.tlv.proofs.Reading.{backwards, beyond, within}
+use mathlib.Core.Path.{refl, ap, ◌∙◌}
+use mathlib.Core.List.{List}
+use Prim.Native.Nat.{ℕ}
+use Rattle.std.proofs.Common.{Bor}
+use Rattle.tlv.proofs.Reading.{part_or_empty}
 use Rattle.tlv.proofs.Field.value.Goals as goal
 
-pub returns-then-stop-start : goal.returns-then-stop-start
-returns-then-stop-start c = backwards _ _ c.if-stop-start.true
-
-pub returns-then-area-stop : goal.returns-then-area-stop
-returns-then-area-stop c = beyond _ _ c.if-stop-start.false c.if-area-stop.true
-
 pub returns : goal.returns
-returns c = within _ _ c.if-stop-start.false c.if-area-stop.false
+returns c = ap (λ (x : Bor (List ℕ)). x.now) c.unwrap_or.ensures ∙ part_or_empty _ _ _ _ c.get.ensures.lookup refl

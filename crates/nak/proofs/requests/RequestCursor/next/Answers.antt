@@ -16,6 +16,4 @@ pub offset_at-requires-2 : goal.offset_at-requires-2
 offset_at-requires-2 c = omega (arith, c.size_width-width.ensures.0)
 
 pub returns : goal.returns
-returns c =
-    let size-width = c.size_width-width in
-    next_pair _ _ _ _ _ _ size-width.ensures.0 (omega arith) c.offset_at.ensures c.offset_at-2.ensures
+returns c = next_pair _ _ _ _ _ _ c.size_width-width.ensures.0 (omega arith) c.offset_at.ensures c.offset_at-2.ensures

@@ -1,23 +1,15 @@
 -- `nak::reserve::ReservedNak::new` meets its contract: the judgement's refusal, or the place of the requests.
-use mathlib.Core.Path.{sym, ap, ◌∙◌}
-use Rattle.header.specs.Answers.{length_answer}
+use mathlib.Core.Path.{◌∙◌}
+use Rattle.fields.proofs.Handed.{handed_on}
 use Rattle.nak.proofs.Reserving.{not_reserved, reserved_is}
 use Rattle.nak.proofs.reserve.ReservedNak.new.Goals as goal
 
-pub returns-in-Refused : goal.returns-in-Refused
-returns-in-Refused c =
-    let towards-sender = c.towards_sender in
-    let pairs_length = c.pairs_length-own in
-    let with-data = c.with_data-header in
-    let judge-write = c.judge_write-judged in
-    not_reserved _ _ _ _ towards-sender.ensures _ pairs_length.ensures _ with-data.ensures _
-    (ap length_answer (sym c.in-Refused.is) ∙ judge-write.ensures)
+pub returns-in_err-judge_write : goal.returns-in_err-judge_write
+returns-in_err-judge_write c =
+    handed_on _ _ c.from_residual.ensures.1
+    ∙ not_reserved _ _ _ _ c.towards_sender.ensures _ c.pairs_length-own.ensures _ c.with_data-header.ensures _ c.in_err-judge_write.ensures
 
-pub returns-in-Length : goal.returns-in-Length
-returns-in-Length c =
-    let towards-sender = c.towards_sender in
-    let pairs_length = c.pairs_length-own in
-    let with-data = c.with_data-header in
-    let judge-write = c.judge_write-judged in
-    reserved_is _ _ _ _ towards-sender.ensures _ pairs_length.ensures _ with-data.ensures _ _
-    (ap length_answer (sym c.in-Length.is) ∙ judge-write.ensures) c.place.ensures
+pub returns : goal.returns
+returns c =
+    reserved_is _ _ _ _ c.towards_sender.ensures _ c.pairs_length-own.ensures _ c.with_data-header.ensures _ _
+    c.in_ok-judge_write.ensures c.place.ensures

@@ -1,7 +1,0 @@
--- `replay::list::normal` meets its contract: a store keeps the length, which the count does not exceed.
-use borrow.Author.Rules.{rules}
-use Rattle.replay.proofs.Counting.{counts}
-use Rattle.replay.proofs.list.normal.Goals as goal
-
-pub returns : goal.returns
-returns c = counts _ _ (search rules)
