@@ -38,7 +38,7 @@ impl Ack {
     pub fn from_bytes(buf: &[u8]) -> Result<Ack, Refusal>
         ensures { answer_of result ≡ run reading_ack buf.now }
     {
-        // Kept: these steps stand in eof, ack, metadata and nak: one for all would take what reads the data as a closure, with a longer contract.
+        // Kept: the same stands in eof, ack, metadata, nak: one for all would take a closure that reads the data, and promise longer.
         let pdu = DirectivePdu::from_bytes(ACK_CODE, buf)?;
         let at = pdu.header.header_len();
         ack_in(pdu.header, &buf[at..pdu.stop])

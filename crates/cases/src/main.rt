@@ -122,6 +122,22 @@ fn summed(file: LargeFileFlag) -> PduHeader {
     }
 }
 
+// What is printed of what was asked for, or the refusal.
+fn print_answer<T: Drop, F: FnOnce(T) -> io::Result<()>>(
+    res: Result<T, Refusal>,
+    print: F,
+) -> io::Result<()>
+    requires { F.IsAlwaysCallable print }
+{
+    match res {
+        Err(refusal) => {
+            listing::print_refusal(refusal);
+            Ok(())
+        }
+        Ok(value) => print(value),
+    }
+}
+
 fn written(
     rt: &impl Print,
     example: &str,
@@ -129,16 +145,10 @@ fn written(
     res: Result<PduWritten, Refusal>,
 ) -> io::Result<()> {
     print!(rt; "{example}: {case} -> ")?;
-    match res {
-        Err(refusal) => {
-            listing::print_refusal(refusal);
-            Ok(())
-        }
-        Ok(written) => {
-            let header = written.header;
-            println!(rt; "written {}, length {}", written.length, header.length)
-        }
-    }
+    print_answer(res, |written| {
+        let header = written.header;
+        println!(rt; "written {}, length {}", written.length, header.length)
+    })
 }
 
 fn writing(rt: &impl Print, case: &str, res: Result<PduWritten, Refusal>) -> io::Result<()> {
@@ -252,14 +262,10 @@ fn finishes_n(rt: &impl Print) -> io::Result<()> {
 
 fn comparing(rt: &impl Print, case: &str, res: Result<bool, Refusal>) -> io::Result<()> {
     print!(rt; "document 01, comparing N: {case} -> ")?;
-    match res {
-        Err(refusal) => {
-            listing::print_refusal(refusal);
-            Ok(())
-        }
-        Ok(true) => println!(rt; "yes"),
-        Ok(false) => println!(rt; "no"),
-    }
+    print_answer(
+        res,
+        |same| println!(rt; "{}", if same { "yes" } else { "no" }),
+    )
 }
 
 fn compares_n(rt: &impl Print) -> io::Result<()> {
@@ -289,14 +295,10 @@ fn compares_n(rt: &impl Print) -> io::Result<()> {
 
 fn most(rt: &impl Print, case: &str, size: usize, h: PduHeader) -> io::Result<()> {
     print!(rt; "document 02, most requests, {case}, of {size} -> ")?;
-    let res = count::calculate_max_segment_requests(size, h);
-    match res {
-        Err(refusal) => {
-            listing::print_refusal(refusal);
-            Ok(())
-        }
-        Ok(n) => println!(rt; "{n}"),
-    }
+    print_answer(
+        count::calculate_max_segment_requests(size, h),
+        |most| println!(rt; "{most}"),
+    )
 }
 
 // Behind the sizes of a case the longest PDU, 65,535 + h; the size that misled the planner; the largest that there is.

@@ -22,6 +22,7 @@ fn fault_numbers(fault: Option<EntityIdTlv>) -> [u64; 3]
     }
 }
 
+// Kept: a flag with two numbers, since C lends a fault location so.
 fn fault_from(there: bool, width: u8, value: u64) -> Option<EntityIdTlv>
     ensures { result ≡ fault_from there width value }
 {

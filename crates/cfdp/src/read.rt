@@ -35,6 +35,7 @@ fn pair_at(area: &[u8], large: bool, index: usize) -> Option<(u64, u64)>
     Some((found.start, found.end))
 }
 
+// Kept: a flag beside a pair, since C is answered so.
 pub fn cfdp_nak_pair(area: &[u8], large: bool, index: usize, pair: &mut [u64; 2]) -> bool
     ensures answered { result ≡ is_pair large area.now index }
     ensures stored { pair.new ≡ pair_at large area.now index }

@@ -43,7 +43,7 @@ impl Eof {
     pub fn from_bytes(buf: &[u8]) -> Result<Eof, Refusal>
         ensures { answer_of result ≡ run reading_eof buf.now }
     {
-        // Kept: these steps stand in eof, ack, metadata and nak: one for all would take what reads the data as a closure, with a longer contract.
+        // Kept: the same stands in eof, ack, metadata, nak: one for all would take a closure that reads the data, and promise longer.
         let pdu = DirectivePdu::from_bytes(EOF_CODE, buf)?;
         let at = pdu.header.header_len();
         eof_in(pdu.header, &buf[at..pdu.stop])

@@ -73,7 +73,7 @@ pub enum Refusal {
     DataFieldTooLarge,
 }
 
-// Kept: a count beside its values, since the definitions `numbers_of` and `listed` speak of these fields, and C's answer has them.
+// Kept: a count beside its values, since the definitions `numbers_of` and `listed` speak of these fields.
 // A refusal as document 01 prints it: its number, how many values it returns, and these; a value that it does not
 // return is 0.
 #[derive(Clone, Copy, PartialEq, Eq, Hash, Debug)]

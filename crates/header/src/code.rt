@@ -3,7 +3,8 @@ ghost use Rattle.std.specs.Prelude.{◌≡◌};
 ghost use Rattle.header.specs.Code.{kind_of};
 
 // What a directive code says to a reader.
-// Kept: a code is any `u8`, here and in `DirectivePdu`: a caller may give any, and 7 and 8 refuse the others.
+// Kept: `from_code` is no `TryFrom`: it takes any byte and refuses none. A code is any `u8`, here and in `DirectivePdu::from_bytes`: a
+// caller may give any, and 7 and 8 refuse the others.
 #[derive(Clone, Copy, PartialEq, Eq, Debug)]
 pub enum DirectiveKind {
     // The directive that it reads.

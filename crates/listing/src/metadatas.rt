@@ -42,7 +42,7 @@ fn print_option(area: &[u8], option: Field) {
 }
 
 // An area has no more options than bytes.
-// Kept: options are walked by a cursor by value, as document 01 asks of a walk first; no reader stands above it yet.
+// Kept: a cursor by value. A cut ends the walk, so an iterator would yield a `Result` for each option, and promise more.
 fn print_options(area: &[u8]) {
     let mut cursor = FieldCursor { at: 0 };
     for _ in area {

@@ -104,7 +104,7 @@ impl Metadata {
     pub fn from_bytes(buf: &[u8]) -> Result<Metadata, Refusal>
         ensures { answer_of result ≡ run reading_metadata buf.now }
     {
-        // Kept: these steps stand in eof, ack, metadata and nak: one for all would take what reads the data as a closure, with a longer contract.
+        // Kept: the same stands in eof, ack, metadata, nak: one for all would take a closure that reads the data, and promise longer.
         let pdu = DirectivePdu::from_bytes(METADATA_CODE, buf)?;
         let at = pdu.header.header_len();
         metadata_in(pdu.header, &buf[at..pdu.stop])

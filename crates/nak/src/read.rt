@@ -12,7 +12,7 @@ use header::PduHeader;
 use header::directive::{DirectivePdu, judge_data};
 use header::size::size_width;
 
-// The NAK in its data, which ends at E and holds the scope.
+// The NAK in its data, which ends at E and holds the scope (header and data are two parameters, as in `metadata_in`).
 fn nak_in(header: PduHeader, content: &[u8]) -> Nak
     requires { (area_start header ≤ data_end header) × (header_length header + length content.now ≡ data_end header) }
     ensures { result ≡ nak_in header content.now }
@@ -39,7 +39,7 @@ impl Nak {
     pub fn from_bytes(buf: &[u8]) -> Result<Nak, Refusal>
         ensures { answer_of result ≡ run reading_nak buf.now }
     {
-        // Kept: these steps stand in eof, ack, metadata and nak: one for all would take what reads the data as a closure, with a longer contract.
+        // Kept: the same stands in eof, ack, metadata, nak: one for all would take a closure that reads the data, and promise longer.
         let pdu = DirectivePdu::from_bytes(NAK_CODE, buf)?;
         let at = pdu.header.header_len();
         judge_data(pdu.stop, area_start(pdu.header))?;

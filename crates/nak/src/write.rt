@@ -37,7 +37,7 @@ fn scope_fits(file: LargeFileFlag, start: u64, end: u64) -> bool
 }
 
 // 9: in a large NAK every scope fits.
-// Kept: start and end apart, here and where a NAK is written: the public clauses name each, and C lends them so.
+// Kept: start and end apart, here and where a NAK is written, finished and compared: the public clauses name each, and C lends them so.
 pub fn judge_scope(file: LargeFileFlag, start: u64, end: u64) -> Result<(), Refusal>
     ensures { answer_of result ≡ all_of (scope_too_large file start end ∷ []) }
 {
@@ -62,6 +62,7 @@ pub(crate) fn judge_pairs(file: LargeFileFlag, pairs: usize) -> Result<(), Refus
 }
 
 // The data field's length is computed wide; so many pairs fit, and so it fits 16 bits.
+// Kept: file and crc apart, here and below: a header has both, but the file flag is the list's where there is one.
 pub(crate) fn length_of(file: LargeFileFlag, crc: CrcFlag, pairs: usize) -> u16
     requires { pairs ≤ most_pairs file }
     ensures { result ≡ data_length file crc pairs }

@@ -52,7 +52,7 @@ fn open_named<R: Env + Files + Alloc + Eprint>(
 }
 
 // Reads until the buffer is full or the file at its end, where one that cannot be read ends: what there is.
-// Kept: the loop, as nothing is plainer: `Read` has no method that fills a buffer as far as it can, and `read_to_end` needs a heap.
+// Kept: the loop: `Read` has no method that fills a buffer as far as it can.
 fn read_full<'a>(file: &mut impl Read, bytes: &'a mut [u8]) -> &'a [u8] {
     let mut there = 0;
     while there < bytes.len() {

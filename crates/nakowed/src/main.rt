@@ -26,7 +26,7 @@ fn read_entry(buffer: &mut [u8; ENTRY_LEN]) -> &[u8] {
     &buffer[..HEAD_LEN + k]
 }
 
-// Kept: listing's print_refusal ends the line, and here " at N" stands behind.
+// Kept: `print_refusal` of listing ends the line, and here " at N" stands behind; it prints with no handle of the runtime.
 fn print_refused(rt: &impl Print, refusal: Refusal, at: usize) -> std::io::Result<()> {
     let numbers = refusal.numbers();
     let values = [numbers.first, numbers.second];

@@ -18,8 +18,7 @@ fn print(outcome: Result<Option<Nak>, Refusal>, window: &[u8]) -> bool {
 }
 
 // Offers a fragment until it is used up: how many bytes of the next PDU are then in the window; none where the stream is refused.
-// Kept: window and count apart: receiver::receive borrows the one and is given the other; by Receiver::take each call would copy
-// 2,048 bytes.
+// Kept: window and count apart, as `receive` takes them: a `Receiver` is handed over and back by value.
 fn offer(window: &mut [u8; 2048], filled: usize, fragment: &[u8]) -> Option<usize> {
     let mut there = filled;
     let mut rest = fragment;

@@ -69,6 +69,7 @@ fn plan_with(
 
 // A plan that asks, in NAKs that fit the packet size, for exactly the bytes of the scope that were not received. It is counted first: where
 // it is refused, no lent number changes.
+// Kept: start and end apart, and lists of plain numbers: the clauses name each, and C lends them so.
 pub fn plan(
     header: PduHeader,
     size: usize,

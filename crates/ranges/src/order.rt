@@ -12,13 +12,14 @@ const FIRST_PAIR: usize = 1;
 const SECOND_PAIR: usize = 2;
 
 // What a request area asks for: whether for metadata, and the other pairs.
-#[derive(Clone, Copy)]
+#[derive(Clone, Copy, Debug, PartialEq, Eq)]
 pub struct Asked<'a> {
     pub metadata: bool,
     pub others: Source<'a>,
 }
 
 // The number of the first pair out of order, where the first of them has that number.
+// Kept: the bound on the pairs stands in four contracts: as a ghost field of `Source` each place that makes one would have to prove it.
 fn first_out_of_order(pairs: Source, number: usize) -> Option<usize>
     requires { (1 ≤ number) × (number ≤ 2) × (length (pairs_in pairs) + 2 ≤ largest) }
     ensures { number_or_none result (out_of_order number 0 (pairs_in pairs.entry)) }

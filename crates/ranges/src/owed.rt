@@ -130,6 +130,7 @@ fn put(first: Option<FirstNak>, count: u64, state: &mut State)
 }
 
 // 27, after the whole entry; else the state is the new one.
+// Kept: that the numbers are a state stands in four contracts: C may lend what is none, and `entry` tests it before.
 fn owe(rule: Rule, pairs: Source, first: Option<FirstNak>, state: &mut State) -> Result<(), Refusal>
     requires { (is_state state.old ≡ true) × Rising 0 (pairs_in pairs) }
     ensures { (answer_of result ≡ judged_only (owing_with rule first (pairs_in pairs.entry) state.old)) × (state.new ≡ left_by (owing_with rule first (pairs_in pairs.entry) state.old) state.old) }

@@ -7,7 +7,7 @@ ghost use Rattle.ranges.specs.Within.{pairs_in, ahead, edge, begun, passed};
 use nak::iter::SegmentRequestIter;
 
 // The pairs that are still to come.
-#[derive(Clone, Copy)]
+#[derive(Clone, Copy, Debug, PartialEq, Eq)]
 pub enum Source<'a> {
     Area(SegmentRequestIter<'a>),
     Numbers(&'a [u64]),
@@ -36,7 +36,7 @@ impl<'a> Iterator for Source<'a> {
 }
 
 // A pair, unless all are behind, and those behind it.
-#[derive(Clone, Copy)]
+#[derive(Clone, Copy, Debug, PartialEq, Eq)]
 pub struct Side<'a> {
     pub pair: Option<(u64, u64)>,
     pub rest: Source<'a>,

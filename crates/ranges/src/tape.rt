@@ -7,7 +7,7 @@ ghost use Rattle.ranges.specs.Within.{placed, closing, closed_into, turned_open,
 
 // The range that is open: its first byte and its label, which is 0 where none is open; and how many ranges were closed before it.
 // Kept: an Option is no plainer, since it would have to say that no label in it is 0, which specs/Runs has for a byte in no range.
-// Kept: `out` and `labelled` stay beside it, since each method of a struct that held the `&mut` would have to say that it is still that one.
+// Kept: `out` and `labelled` stay beside it, since each method of a struct that held the `&mut` would have to say that it still is.
 #[derive(Clone, Copy, Debug, PartialEq, Eq)]
 pub struct Open {
     pub from: u64,

@@ -34,6 +34,7 @@ pub struct Received {
 }
 
 // The same by value: with the state that is left.
+// Kept: it differs from `Received` in one field: they are document 02's two forms of a call, and both are public.
 #[derive(Clone, Copy, Debug, PartialEq, Eq)]
 pub struct Taken {
     pub taken: usize,
@@ -49,7 +50,7 @@ struct Counted {
 }
 
 // What the bytes in the window say.
-// Kept: what is short is neither accepted nor refused, as in `Answer` of the definitions; a Result of an enum of the other two is no plainer.
+// Kept: what is short is neither accepted nor refused, as in `Answer` of the definitions; a Result of the other two is no plainer.
 #[derive(Clone, Copy)]
 enum Status {
     Wants { found: usize, need: usize },

@@ -41,6 +41,7 @@ pub(crate) fn reads<F: FnOnce(&[u8], &mut Answer)>(call: F) -> bool
 }
 
 // An array of one byte, of which a call is lent a front as long as the list says.
+// Kept: an array with a length: what lies behind the front is compared too.
 #[derive(Drop)]
 pub struct Lent {
     buf: [u8; MOST_BYTES],

@@ -19,7 +19,7 @@ fn option_at(area: &[u8], at: usize) -> Answer {
 }
 
 // Whether so many options are the list's, and then the end is told.
-// Kept: options are walked by a cursor by value, as document 01 asks of a walk first; no reader stands above it yet.
+// Kept: a place and a walk by hand: what is tested here is `cfdp_metadata_option`, which C calls by place.
 fn walked(area: &[u8], count: usize) -> bool {
     let mut same = true;
     let mut at = 0;

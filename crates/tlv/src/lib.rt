@@ -24,6 +24,7 @@ pub enum Form {
 }
 
 // A field that was read: its type, 0 where the form has none, and where its value starts and stops. The next field begins at `stop`.
+// Kept: a number, since the definition `tag_at` says this 0.
 #[derive(Clone, Copy, PartialEq, Eq, Hash, Debug)]
 pub struct Field {
     pub tag: u8,

@@ -7,6 +7,8 @@ ghost use Rattle.tlv.specs.Within.{behind};
 use crate::{Cut, Field, Form};
 use fields::be;
 
+// Kept: form, area and place apart, here and in walk: the public clauses name each.
+
 #[tactic(auto, using(crate::proofs::Reading::length_read))]
 fn length_at(form: Form, area: &[u8], at: usize) -> usize
     requires { at + head_bytes form ≤ length area.now }

@@ -18,6 +18,7 @@ fn copy(buf: &mut [u8], at: usize, bytes: &[u8])
 }
 
 // Whether so many bytes from a place on lie in a slice of `len` bytes.
+// Kept: `lies_in` of fields asks besides that they are at most 8, which a name is not.
 fn has_room(len: usize, at: usize, size: usize) -> bool
     ensures { result ≡ leb (at + size) len }
 {
