@@ -3,7 +3,7 @@
 use crate::fault::{Fault, Wrong};
 use crate::line;
 use crate::line::Kind;
-use crate::task::{Asked, Plan, Task};
+use crate::task::{Plan, Task, Wanted};
 use fields::{Refusal, TransactionSeqNum, UnsignedByteField};
 use header::judge::HeaderFields;
 use header::{
@@ -184,10 +184,10 @@ impl Draft {
         let header = header.ok_or(Fault::NoHeader)?;
         let size = packet.ok_or(Fault::NoPacket)? as usize;
         let (start, end) = scope.ok_or(Fault::NoScope)?;
-        let asked = if ended || !plan.naks.is_empty() {
-            Asked::Check(plan)
+        let wanted = if ended || !plan.naks.is_empty() {
+            Wanted::Check(plan)
         } else {
-            Asked::Make(room(alloc)?)
+            Wanted::Make(room(alloc)?)
         };
         Ok(Task {
             header,
@@ -195,7 +195,7 @@ impl Draft {
             start,
             end,
             received,
-            asked,
+            wanted,
         })
     }
 }

@@ -43,7 +43,7 @@ impl fmt::Display for Answer {
 
 // The plan that was given, or room for one.
 #[derive(Drop)]
-pub enum Asked {
+pub enum Wanted {
     Check(Plan),
     Make(Plan),
 }
@@ -55,7 +55,7 @@ pub struct Task {
     pub start: u64,
     pub end: u64,
     pub received: Vec<[u64; 2]>,
-    pub asked: Asked,
+    pub wanted: Wanted,
 }
 
 impl Task {
@@ -67,12 +67,12 @@ impl Task {
             start,
             end,
             received,
-            asked,
+            wanted,
         } = self;
         let header = header?;
         let received = received.as_flattened();
-        match asked {
-            Asked::Check(plan) => {
+        match wanted {
+            Wanted::Check(plan) => {
                 let requests = plan.requests.as_flattened();
                 let naks = plan.naks.as_flattened();
                 let accepted = checker::check_plan(
@@ -80,7 +80,7 @@ impl Task {
                 )?;
                 Ok(Answer::Accepted(accepted))
             }
-            Asked::Make(mut plan) => {
+            Wanted::Make(mut plan) => {
                 let requests = plan.requests.as_flattened_mut();
                 let naks = plan.naks.as_flattened_mut();
                 let planned = planner::plan(header, size, received, start, end, requests, naks)?;

@@ -84,5 +84,3 @@ StoredAccepted =
     (h : PduHeader) (size : ℕ) (received : List ℕ) (start end : ℕ) (s t : List ℕ) (p : Plan)
     → planning h size received start end (length s) (length t) ≡ accepted p
     → checking_plan h size received start end (take (2 * length p.requests) (requests_after (accepted p) s)) (take (3 * length p.naks) (naks_after (accepted p) t)) ≡ accepted true
-
--- ---- 'How much each promise says': the answers leave one value

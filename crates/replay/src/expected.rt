@@ -43,17 +43,17 @@ pub(crate) fn reads<F: FnOnce(&[u8], &mut Answer)>(call: F) -> bool
 // An array of one byte, of which a call is lent a front as long as the list says.
 // Kept: an array with a length: what lies behind the front is compared too.
 #[derive(Drop)]
-pub struct Lent {
+pub struct Filled {
     buf: [u8; MOST_BYTES],
     length: usize,
     filler: u8,
 }
 
-impl Lent {
-    pub fn next() -> Lent {
+impl Filled {
+    pub fn next() -> Filled {
         let length = list::four() as usize;
         let filler = list::byte();
-        Lent {
+        Filled {
             buf: [filler; MOST_BYTES],
             length,
             filler,
@@ -77,7 +77,7 @@ impl Lent {
 pub(crate) fn writes<F: FnOnce(&mut [u8], &mut Answer)>(call: F) -> bool
     requires { F.IsAlwaysCallable call }
 {
-    let mut lent = Lent::next();
+    let mut lent = Filled::next();
     let same = answers(|found| call(lent.front(), found));
     same & lent.is_listed()
 }

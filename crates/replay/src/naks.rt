@@ -1,5 +1,5 @@
 // The records of NAKs: reads what goes in, calls the library, compares.
-use crate::expected::{Lent, UNTOUCHED};
+use crate::expected::{Filled, UNTOUCHED};
 use crate::list::{MOST_BYTES, MOST_LARGE, MOST_NORMAL};
 use crate::{expected, list};
 use cfdp::{ANSWER_LEN, Answer, compare, read, reserve, write};
@@ -36,7 +36,7 @@ where
     let start = list::eight();
     let end = list::eight();
     let numbers = list::numbers(room, next);
-    let mut lent = Lent::next();
+    let mut lent = Filled::next();
     let mut answer = [UNTOUCHED; ANSWER_LEN];
     write(
         &header.shape,
