@@ -4,13 +4,13 @@ use mathlib.Core.Path.{◌≡◌, refl, sym, ap, ap₂, ◌∙◌}
 use mathlib.Core.Bool.{Bool, true, false, ◌&&◌, and-false}
 use mathlib.Core.List.{List, [], ◌∷◌, ◌++◌, append_assoc, append-nil}
 use Prim.Native.Nat.{ℕ, zero, suc, ◌+◌, ◌-◌, ◌*◌, ◌/◌, ◌%◌, ◌^◌, ◌<◌, ◌≤◌}
-use native.Mathlib.Nat.{mul_assoc, mul_comm, mul-one, add-mul, add_assoc, div-add-mod', pow-suc, pow-le-pow_right, one-le-pow, div-lt_iff_lt-mul, add-suc, suc-add, add-zero, zero-add, lt_of_not-le, lt_of_lt_of_le}
+use native.Mathlib.Nat.{mul_assoc, sub-zero, mul_comm, mul-one, add-mul, add_assoc, div-add-mod', pow-suc, pow-le-pow_right, one-le-pow, div-lt_iff_lt-mul, add-suc, suc-add, add-zero, zero-add, lt_of_not-le, lt_of_lt_of_le}
 use native.Mathlib.Decide.{dec_le}
 use native.Mathlib.Numerals.{add-one}
 use native.Mathlib.Omega.{arith}
 use lib.Arith.{digits_lt, lt-one}
 use lib.Dec.{leb}
-use lib.ListN.{length, take, drop, set, get_or, length-append, length-take, length-drop, length-set, take-append-drop, drop_of_length-le}
+use lib.ListN.{length, take, drop, set, get_or, length-append, length-take, length-drop, length-set, take-append-drop}
 use lib.Seq.{drop-cons, append_snoc, take-set-le, drop-set-lt, get_or-set_same, take_at, drop_at, take-take, drop-drop, get_or-drop, sets, sets-eq, length-sets}
 use borrow.Author.Tests.{le-leb, lt-leb, leb-true}
 use Rattle.std.specs.Prelude.{if◌then◌else◌}
@@ -72,21 +72,24 @@ room i v b h l k =
     let m : 256 ^ i ≤ 256 ^ 7 = pow-le-pow_right (omega arith) {i = i} {j = 7} (omega arith) in
     omega arith
 
--- the part of the slice that the loop goes over
-pub span : (s : List ℕ) (at w : ℕ) → at + w ≤ length s → length (take (at + w - at) (drop at s)) ≡ w
-span s at w h = simp (length-take, length-drop) (omega arith)
-
-pub read_start : (s : List ℕ) (at w : ℕ) → be_from 0 (take (at + w - at) (drop at s)) ≡ number_at s at w
+pub read_start : (s : List ℕ) (at w : ℕ) → be_from 0 (take (w - 0) (drop (at + 0) s)) ≡ number_at s at w
 unfolding number_at be_value
-read_start s at w = let e : at + w - at ≡ w = omega arith in rw e
+read_start s at w = rw (sub-zero, add-zero)
 
-pub read_turn : (v : ℕ) (bs : List ℕ) (i : ℕ) → i < length bs → be_from (v * 256 + get_or bs i 0) (drop (i + 1) bs) ≡ be_from v (drop i bs)
+pub read_turn : (v : ℕ) (s : List ℕ) (at w i b : ℕ) → i < w → at + w ≤ length s → b ≡ get_or s (at + i) 0
+    → be_from (v * 256 + b) (take (w - (i + 1)) (drop (at + (i + 1)) s)) ≡ be_from v (take (w - i) (drop (at + i) s))
 unfolding be_from
-read_turn v bs i h = rw (add-one, drop-cons bs i 0)
+read_turn v s at w i b h k p =
+    let e : w - i ≡ suc (w - (i + 1)) = omega arith in
+    let f : at + (i + 1) ≡ suc (at + i) = omega arith in
+    let l : at + i < length s = omega arith in
+    rw (e, f, p, drop-cons s (at + i) 0 l)
 
-pub read_done : (v : ℕ) (bs : List ℕ) (i : ℕ) → length bs ≤ i → v ≡ be_from v (drop i bs)
+pub read_done : (v m : ℕ) (s : List ℕ) (at w i : ℕ) → w ≤ i → be_from v (take (w - i) (drop (at + i) s)) ≡ m → v ≡ m
 unfolding be_from
-read_done v bs i h = rw drop_of_length-le
+read_done v m s at w i h e =
+    let z : w - i ≡ 0 = omega arith in
+    rw z at e
 
 -- ---- bytes are below a power of 256
 

@@ -1,13 +1,13 @@
 -- A part of a slice that has just the bytes of what is read or written there: a number, once over the width, and bytes that are copied to it.
 -- Assumes nothing.
-use Prim.Native.Nat.{ℕ, ◌+◌, ◌-◌, ◌^◌, ◌≤◌, ◌<◌}
+use Prim.Native.Nat.{ℕ, suc, ◌+◌, ◌-◌, ◌^◌, ◌≤◌, ◌<◌}
 use mathlib.Core.Path.{◌≡◌, sym, ap, ◌∙◌}
 use mathlib.Core.List.{List, [], ◌++◌, append_assoc}
 use native.Mathlib.Nat.{add-zero}
 use native.Mathlib.Omega.{arith}
-use lib.ListN.{length, take, drop, length-take, length-drop, drop_of_length-le}
-use lib.Seq.{drop-drop, sets, sets-eq}
-use borrow.Rule.Slice.PartMut.{put_mid}
+use native.Mathlib.Numerals.{add-one}
+use lib.ListN.{length, get_or, take, drop, set, length-take, length-drop, drop_of_length-le}
+use lib.Seq.{drop-drop, drop-cons, sets, sets-eq}
 use Rattle.fields.specs.BigEndian.{be_bytes, number_at, be_at, be_put}
 use Rattle.fields.proofs.BigEndian.{be_length, at_number, number_take, number_behind, put_sets}
 
@@ -45,6 +45,12 @@ part_put s p at w e v pe h k f q =
     ∙ ap (λ (x : List ℕ). take at s ++ (B ++ x)) (drop-drop w at s)
     ∙ sym whole
 
--- bytes that are copied to a part
-pub copied : (s bytes b : List ℕ) (at k : ℕ) → k ≡ length bytes → b ≡ bytes → at + length bytes ≤ length s → put_mid at k s b ≡ sets s at bytes
-copied s bytes b at k p q h = rw (p, q, sets-eq bytes s at h, append_assoc, drop-drop)
+-- bytes that are copied one by one: those that are left, stored, give what is to be stored
+pub byte_turn : (w w₀ bytes : List ℕ) (at i : ℕ) → i < length bytes → sets w (at + i) (drop i bytes) ≡ sets w₀ at bytes
+    → sets (set w (at + i) (get_or bytes i 0)) (at + (i + 1)) (drop (i + 1) bytes) ≡ sets w₀ at bytes
+byte_turn w w₀ bytes at i h e =
+    let p : at + (i + 1) ≡ suc (at + i) = omega arith in
+    rw (p, add-one i) ((ap (sets w (at + i)) (sym (drop-cons bytes i 0 h))) ∙ e)
+
+pub bytes_done : (w w₀ bytes : List ℕ) (i at : ℕ) → length bytes ≤ i → sets w (at + i) (drop i bytes) ≡ sets w₀ at bytes → w ≡ sets w₀ at bytes
+bytes_done w w₀ bytes i at h e = ap (sets w (at + i)) (sym (drop_of_length-le bytes {i = i} h)) ∙ e

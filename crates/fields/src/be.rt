@@ -25,8 +25,9 @@ fn number_at(s: &[u8], at: usize, width: usize) -> u64
     ensures { (result ≡ number_at s.now at width) × (result < 256 ^ width) }
 {
     let mut value: u64 = 0;
-    for &byte in &s[at..at + width] {
-        value = value * 256 + byte as u64;
+    // Places count from 0, as below: at a literal width the compiler then makes one load of it.
+    for i in 0..width {
+        value = value * 256 + s[at + i] as u64;
     }
     value
 }

@@ -6,6 +6,7 @@ ghost use Rattle.listing.specs.Listing.{is_accepted, is_plain};
 
 use crate::{listed, print, print_ids, print_line};
 use metadata::{Metadata, MetadataParams, parts};
+use std::fmt::{Display, InlineText};
 use tlv::Field;
 use tlv::walk::{FieldCursor, NextField};
 
@@ -21,13 +22,18 @@ fn is_plain(byte: u8) -> bool
     }
 }
 
+// A byte in hexadecimal, with what is in front of it, as one piece: pieces are written one by one, and it has up to three.
+fn print_byte(text: impl Display + Drop) {
+    print(InlineText::<4>::of(text).as_str());
+}
+
 fn print_name(word: &str, name: &[u8]) {
     print(word);
     for byte in name {
         if is_plain(*byte) {
             print(char::from(*byte));
         } else {
-            print(format_args!("\\x{byte:02X}"));
+            print_byte(format_args!("\\x{byte:02X}"));
         }
     }
     print_line("");
@@ -36,7 +42,7 @@ fn print_name(word: &str, name: &[u8]) {
 fn print_option(area: &[u8], option: Field) {
     print(format_args!("option {}", option.tag));
     for byte in option.value(area) {
-        print(format_args!(" {byte:02X}"));
+        print_byte(format_args!(" {byte:02X}"));
     }
     print_line("");
 }

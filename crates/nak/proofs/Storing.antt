@@ -10,6 +10,7 @@ use lib.Arith.{digits_lt, digits_div, digits_mod}
 use lib.Dec.{lit<}
 use lib.ListN.{length, get_or, take, drop, length-append, length-drop, take-append-drop, drop_of_length-le}
 use lib.Seq.{sets, sets-eq, length-take-le, drop-drop}
+use Rattle.std.proofs.lemmas.Bool.{eq-eqb}
 use Rattle.fields.specs.BigEndian.{be_bytes, be_put}
 use Rattle.fields.proofs.BigEndian.{be_length, be_beside, put_sets, put_behind, sets_append}
 use Rattle.header.specs.declared.PduHeader.{PduHeader}
@@ -17,7 +18,7 @@ use Rattle.header.specs.declared.flags.LargeFileFlag.{LargeFileFlag}
 use Rattle.header.specs.Header.{header_length}
 use Rattle.header.specs.Size.{size_width}
 use Rattle.nak.specs.Nak.{area_start}
-use Rattle.nak.specs.Writing.{numbers_bytes, scope_bytes, nak_data, scope_fits}
+use Rattle.nak.specs.Writing.{numbers_bytes, pair_put, scope_bytes, nak_data, scope_fits}
 use Rattle.nak.proofs.Tests.{scope_fits_lem}
 
 -- ---- code and scope
@@ -98,11 +99,24 @@ pair_as_two w s m₁ m ns small room two fa fb p q =
     ∙ all_set s (be_bytes w a ++ be_bytes w b) (simp (length-append, be_length) (sym room))
     ∙ sym (numbers_two w ns two)
 
+-- which is what is promised of a pair in memory that has just its bytes
+pub pair_fits : (w : ℕ) (s ns : List ℕ) → length s ≡ 2 * w → length ns ≡ 2 → numbers_bytes w ns ≡ pair_put w ns s
+unfolding pair_put
+pair_fits w s ns room two = rw (eq-eqb (length s) (2 * w) room, eq-eqb (length ns) 2 two) refl
+
 -- a pair's bytes, and that they are there
 pub pair_length : (w i : ℕ) (ns : List ℕ) → 2 * i + 2 ≤ length ns → length (numbers_bytes w (take 2 (drop (2 * i) ns))) ≡ 2 * w
 pair_length w i ns h =
     let two : length (take 2 (drop (2 * i) ns)) ≡ 2 = length-take-le 2 (drop (2 * i) ns) (omega (arith, length-drop (2 * i) ns)) in
     numbers_length w (take 2 (drop (2 * i) ns)) ∙ ap (λ (n : ℕ). w * n) two ∙ omega arith
+
+pub pair_part : (w u f i : ℕ) (buf ns : List ℕ) → u ≡ w → f + 2 * u ≤ length buf → 2 * i + 2 ≤ length ns
+    → numbers_bytes w (take 2 (drop (2 * i) ns)) ≡ pair_put w (take 2 (drop (2 * i) ns)) (take (f + 2 * u - f) (drop f buf))
+pair_part w u f i buf ns e there h =
+    let two : length (take 2 (drop (2 * i) ns)) ≡ 2 = length-take-le 2 (drop (2 * i) ns) (omega (arith, length-drop (2 * i) ns)) in
+    let some : f + 2 * u - f ≤ length (drop f buf) = omega (arith, length-drop f buf) in
+    let room : length (take (f + 2 * u - f) (drop f buf)) ≡ 2 * w = length-take-le (f + 2 * u - f) (drop f buf) some ∙ omega (arith, e) in
+    pair_fits w (take (f + 2 * u - f) (drop f buf)) (take 2 (drop (2 * i) ns)) room two
 
 pub pair_there : (w u at i n room : ℕ) → u ≡ w → at + w * n ≤ room → i < n / 2 → at + 2 * u * i + 2 * u ≤ room
 pair_there w u at i n room e h l =

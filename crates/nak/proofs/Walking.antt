@@ -22,7 +22,7 @@ use Rattle.header.specs.Size.{size_width}
 use Rattle.header.proofs.Sizes.{size_high}
 use Rattle.nak.specs.Nak.{pair_size}
 use Rattle.nak.specs.Requests.{area_of, pairs_from, pairs_of, pairs_left, next_request, walk}
-use Rattle.nak.specs.Demands.{WalkShowsPairs, EndForEver}
+use Rattle.nak.specs.Demands.{WalkShowsPairs, EndForEver, IteratorShowsPairs, NoneForEver}
 
 -- ---- the area as a part of the bytes
 
@@ -166,6 +166,18 @@ end_for_ever a file at more e =
         → (if c then Some (pair_here a file at) else None) ≡ None → length a < at + pair_size file
     no_pair true p d = absurd (none-some _ (sym d))
     no_pair false p d = leb-false _ _ p
+
+pub iterator_shows_pairs : IteratorShowsPairs
+iterator_shows_pairs area file = left_whole file area
+
+pub none_for_ever : NoneForEver
+none_for_ever a file at more e =
+    let l : length a < at + pair_size file = no_pair (leb (at + pair_size file) (length a)) refl in
+    left_none a file (at + more) (omega arith)
+  where
+    no_pair : (c : Bool) → leb (at + pair_size file) (length a) ≡ c → length a < at + pair_size file
+    no_pair true q = let one = ap length (sym e ∙ left_here a file at (leb-true _ _ q)) in omega (arith, one)
+    no_pair false q = leb-false _ _ q
 
 pairs_length : (w : ℕ) (a : List ℕ) (at n : ℕ) → length (pairs_from w a at n) ≡ n
 pairs_length w a at zero = refl

@@ -15,7 +15,7 @@ use Rattle.nak.specs.declared.reserve.ReservedNak.{ReservedNak}
 use Rattle.header.specs.Size.{size_width}
 use Rattle.nak.specs.Nak.{pair_size, area_start}
 use Rattle.nak.specs.Reading.{reading_nak}
-use Rattle.nak.specs.Requests.{area_of, pairs_of, next_request, walk}
+use Rattle.nak.specs.Requests.{area_of, pairs_of, pairs_left, next_request, walk}
 use Rattle.nak.specs.Writing.{numbers_bytes, nak_bytes, data_length, most_pairs, judging_nak, writing_nak, nak_memory}
 use Rattle.nak.specs.Reserving.{reserving, finishing, finished_memory}
 use Rattle.nak.specs.Comparing.{comparing}
@@ -45,6 +45,15 @@ WalkShowsPairs = (area : List ℕ) (file : LargeFileFlag) (rounds : ℕ) → len
 -- .. and then the end, for ever
 abbrev pub EndForEver : Type 0
 EndForEver = (area : List ℕ) (file : LargeFileFlag) (at more : ℕ) → next_request area file at ≡ None → next_request area file (at + more) ≡ None
+
+-- the same of the thin reader as an iterator, of which each step shows the first of `pairs_left`: from the start these are exactly the pairs
+-- of the area ..
+abbrev pub IteratorShowsPairs : Type 0
+IteratorShowsPairs = (area : List ℕ) (file : LargeFileFlag) → pairs_left area file 0 ≡ pairs_of file area
+
+-- .. and where none is left, none is left behind it either
+abbrev pub NoneForEver : Type 0
+NoneForEver = (area : List ℕ) (file : LargeFileFlag) (at more : ℕ) → pairs_left area file at ≡ [] → pairs_left area file (at + more) ≡ []
 
 -- numbers, start and end by turns, as pairs
 abbrev pub by_turns : List ℕ → List (ℕ × ℕ)

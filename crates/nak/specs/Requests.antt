@@ -32,6 +32,11 @@ next_request area file at =
     then Some (record { start = number_at area at (size_width file); end = number_at area (at + size_width file) (size_width file); next = record { at = at + pair_size file } })
     else None
 
+-- where a walk goes on behind what stands at a position; where no whole pair is left it stays
+abbrev pub cursor_after : Option NextRequest → RequestCursor → RequestCursor
+cursor_after (Some p) cursor = p.next
+cursor_after None cursor = cursor
+
 -- 'An empty area has no iterator'
 unfoldable pub requests_of : Nak → List ℕ → Option RequestCursor
 requests_of n s = if eqb (length (area_of n s)) 0 then None else Some (record { at = 0 })

@@ -1,5 +1,5 @@
 -- Writing a NAK (CCSDS 727.0-B-5, 5.2.6; document 01): its bytes, its refusals in their order, the answer, and the lent memory at exit.
-use Rattle.std.specs.Prelude.{ℕ, ◌+◌, ◌*◌, ◌/◌, ◌%◌, Bool, false, ◌&&◌, not, List, [], ◌∷◌, ◌++◌, eqb, ltb, length}
+use Rattle.std.specs.Prelude.{ℕ, ◌+◌, ◌*◌, ◌/◌, ◌%◌, Bool, false, ◌&&◌, not, List, [], ◌∷◌, ◌++◌, eqb, ltb, length, if◌then◌else◌}
 use Rattle.fields.specs.BigEndian.{be_bytes}
 use Rattle.fields.specs.Answer.{Answer, Test, when, first_of}
 use Rattle.header.specs.declared.PduHeader.{PduHeader}
@@ -19,6 +19,10 @@ use Rattle.nak.specs.Nak.{nak_code, pair_size}
 unfoldable pub numbers_bytes : ℕ → List ℕ → List ℕ
 numbers_bytes w [] = []
 numbers_bytes w (v ∷ vs) = be_bytes w v ++ numbers_bytes w vs
+
+-- two of them in memory that has just their bytes; else it stays
+unfoldable pub pair_put : ℕ → List ℕ → List ℕ → List ℕ
+pair_put w ns s = if eqb (length s) (2 * w) && eqb (length ns) 2 then numbers_bytes w ns else s
 
 -- directive code 8, start of scope, end of scope
 unfoldable pub scope_bytes : LargeFileFlag → ℕ → ℕ → List ℕ

@@ -1,8 +1,8 @@
 // The thin reader of segment requests (the Rust's `SegmentRequestIter`): the request area, lent, and a cursor in it.
 // Nothing is tested or computed here: the work is `request_area`'s and `RequestCursor`'s.
-ghost use Rattle.std.specs.Prelude.{◌≡◌};
-ghost use Rattle.std.specs.Iterator.{YieldsFirst, item_count};
-ghost use Rattle.nak.specs.Requests.{area_of, next_request, pairs_left};
+ghost use Rattle.std.specs.Prelude.{◌≡◌, ⊤};
+ghost use Rattle.std.specs.Iterator.{YieldsFirst, MakesProgress, item_count};
+ghost use Rattle.nak.specs.Requests.{area_of, next_request, cursor_after, pairs_left};
 
 use crate::Nak;
 use crate::requests::{NextRequest, RequestCursor};
@@ -66,7 +66,11 @@ impl<'a> Iterator for SegmentRequestIter<'a> {
 
     ghost remaining = { item_count (λ s. pairs_left s.area.now s.file s.cursor.at) };
 
-    fn next(&mut self) -> Option<(u64, u64)> {
+    fn next(&mut self) -> Option<(u64, u64)>
+        ensures steps { YieldsFirst (λ s. pairs_left s.area.now s.file s.cursor.at) self.old result self.new }
+        ensures goes { MakesProgress (λ _. ⊤) (item_count (λ s. pairs_left s.area.now s.file s.cursor.at)) self.old result self.new }
+        ensures moves { (self.new.cursor ≡ cursor_after (next_request self.old.area.now self.old.file self.old.cursor.at) self.old.cursor) × (self.new.area ≡ self.old.area) × (self.new.file ≡ self.old.file) }
+    {
         let request = self.cursor.next(self.area, self.file)?;
         self.cursor = request.next;
         Some((request.start, request.end))

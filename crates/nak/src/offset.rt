@@ -4,7 +4,7 @@ ghost use Rattle.std.proofs.Common.{sym};
 ghost use Rattle.std.proofs.lemmas.List.{map-id};
 ghost use Rattle.header.specs.declared.flags.LargeFileFlag.{LargeFileFlag};
 ghost use Rattle.header.specs.Size.{size_width};
-ghost use Rattle.nak.specs.Writing.{numbers_bytes};
+ghost use Rattle.nak.specs.Writing.{pair_put};
 
 use fields::be;
 use header::LargeFileFlag;
@@ -26,10 +26,9 @@ pub trait Offset: Copy {
     fn number(self) -> u64
         ensures { result ≡ number self };
 
-    // A pair in its place, which has just its bytes.
+    // A pair in its place, which has just its bytes; else nothing changes.
     fn put_pair(buf: &mut [u8], pair: &[Self])
-        requires { (length buf.old ≡ 2 * size_width file) × (length pair.now ≡ 2) }
-        ensures { buf.new ≡ numbers_bytes (size_width file) (numbers pair.now) };
+        ensures { buf.new ≡ pair_put (size_width file) (numbers pair.now) buf.old };
 }
 
 impl Offset for u32 {
@@ -52,6 +51,12 @@ impl Offset for u32 {
     // Both at a time, in two steps that are each a function: then the compiler makes one load, one exchange and one store of a pair; put
     // together at once, or stored one after the other, it is taken apart into bytes again.
     fn put_pair(buf: &mut [u8], pair: &[u32]) {
+        if buf.len() != 8 {
+            return;
+        }
+        if pair.len() != 2 {
+            return;
+        }
         be::write_be(buf, 0, 8, exchanged(two_of(pair)));
     }
 }
@@ -74,6 +79,12 @@ impl Offset for u64 {
     }
 
     fn put_pair(buf: &mut [u8], pair: &[u64]) {
+        if buf.len() != 16 {
+            return;
+        }
+        if pair.len() != 2 {
+            return;
+        }
         be::write_be(buf, 0, 8, pair[0]);
         be::write_be(buf, 8, 8, pair[1]);
     }

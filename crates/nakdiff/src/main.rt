@@ -3,6 +3,8 @@
 // What is printed is tested and not proved.
 #![tactic(auto)]
 
+ghost use Rattle.std.specs.Prelude.{◌≤◌, length};
+
 use ranges::differ;
 use ranges::differ::Differences;
 use std::env::{Env, FillError};
@@ -53,7 +55,9 @@ fn open_named<R: Env + Files + Alloc + Eprint>(
 
 // Reads until the buffer is full or the file at its end, where one that cannot be read ends: what there is.
 // Kept: the loop: `Read` has no method that fills a buffer as far as it can.
-fn read_full<'a>(file: &mut impl Read, bytes: &'a mut [u8]) -> &'a [u8] {
+fn read_full<'a>(file: &mut impl Read, bytes: &'a mut [u8]) -> &'a [u8]
+    ensures { length result.now ≤ length bytes.old }
+{
     let mut there = 0;
     while there < bytes.len() {
         match file.read(&mut bytes[there..]) {

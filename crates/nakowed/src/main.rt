@@ -2,6 +2,8 @@
 // What is printed is tested and not proved. Where it cannot be written, the log is read on.
 #![tactic(auto)]
 
+ghost use Rattle.std.specs.Prelude.{◌≤◌, length};
+
 use fields::Refusal;
 use ranges::owed;
 use ranges::owed::State;
@@ -16,7 +18,9 @@ const ENTRY_LEN: usize = 65538;
 
 // Reads an entry, or as much of it as there is.
 // Kept: `io::read_full` over the descriptor is the plainer: `std::io::Read` has no method that fills a buffer and says how far it came.
-fn read_entry(buffer: &mut [u8; ENTRY_LEN]) -> &[u8] {
+fn read_entry(buffer: &mut [u8; ENTRY_LEN]) -> &[u8]
+    ensures { length result.now ≤ length buffer.old }
+{
     let n = io::read_full(STDIN_FILENO, &mut buffer[..HEAD_LEN]);
     if n < HEAD_LEN {
         return &buffer[..n];

@@ -1,45 +1,26 @@
 // A task as far as it was read, line by line: header, packet, scope and received ranges, each plan's NAKs with their requests behind them,
 // and its end.
 use crate::fault::{Fault, Wrong};
+use crate::input::{Input, LINE_LEN};
 use crate::line;
 use crate::line::Kind;
-use crate::task::{Plan, Task, Wanted};
+use crate::task::{Plan, Ranges, Task};
+use arrayvec::ArrayVec;
 use fields::{Refusal, TransactionSeqNum, UnsignedByteField};
 use header::judge::HeaderFields;
 use header::{
     CrcFlag, Direction, Flag, LargeFileFlag, PduHeader, PduType, SegmentMetadataFlag,
     SegmentationControl, TransmissionMode,
 };
-use std::alloc::{AllocError, Global};
-use std::io::BufRead;
-
-// What a task may have: received ranges, and requests; NAKs.
-const MOST_RANGES: usize = 8190;
-
-const MOST_NAKS: usize = 1024;
 
 #[derive(Drop)]
-struct Draft {
+pub struct Draft {
     header: Option<Result<PduHeader, Refusal>>,
     packet: Option<u64>,
     scope: Option<(u64, u64)>,
-    received: Vec<[u64; 2]>,
-    plan: Plan,
+    pub received: Ranges,
+    pub plan: Plan,
     ended: bool,
-}
-
-// One more of at most so many.
-fn push_within<T: Drop>(
-    list: &mut Vec<T>,
-    value: T,
-    most: usize,
-    fault: Fault,
-) -> Result<(), Fault> {
-    if list.len() == most {
-        return Err(fault);
-    }
-    list.push(value)?;
-    Ok(())
 }
 
 // What is said once.
@@ -81,25 +62,14 @@ fn header_of(numbers: &[u64; 14]) -> Result<Result<PduHeader, Refusal>, Fault> {
     }))
 }
 
-// Room for any plan.
-fn room(alloc: Global) -> Result<Plan, AllocError> {
-    Ok(Plan {
-        requests: vec![in alloc; [0; 2]; MOST_RANGES]?,
-        naks: vec![in alloc; [0; 3]; MOST_NAKS]?,
-    })
-}
-
 impl Draft {
-    fn new(alloc: Global) -> Draft {
+    pub(crate) fn new() -> Draft {
         Draft {
             header: None,
             packet: None,
             scope: None,
-            received: Vec::new(alloc),
-            plan: Plan {
-                requests: Vec::new(alloc),
-                naks: Vec::new(alloc),
-            },
+            received: ArrayVec::new(),
+            plan: Plan::new(),
             ended: false,
         }
     }
@@ -116,18 +86,17 @@ impl Draft {
 
     // A request belongs to the NAK before it. There are never so many that the count stops.
     fn take_request(&mut self, start: u64, end: u64) -> Result<(), Fault> {
-        let nak = self.plan.naks.last_mut().ok_or(Fault::NoNakBefore)?;
+        let naks = self.plan.naks.as_mut_slice();
+        let nak = naks.last_mut().ok_or(Fault::NoNakBefore)?;
         nak[2] = nak[2].saturating_add(1);
-        push_within(
-            &mut self.plan.requests,
-            [start, end],
-            MOST_RANGES,
-            Fault::TooManyRequests,
-        )
+        let pushed = self.plan.requests.try_push([start, end]);
+        pushed.map_err(|_| Fault::TooManyRequests)
     }
 
     fn take_end(&mut self, naks: u64, requests: u64) -> Result<(), Fault> {
-        if naks != self.plan.naks.len() as u64 || requests != self.plan.requests.len() as u64 {
+        let dealt = self.plan.naks.as_slice().len() as u64;
+        let asked = self.plan.requests.as_slice().len() as u64;
+        if naks != dealt || requests != asked {
             return Err(Fault::OtherEnd);
         }
         self.ended = true;
@@ -139,18 +108,14 @@ impl Draft {
             (Kind::Header, _) => self.take_header(numbers),
             (Kind::Packet, [size]) => say(&mut self.packet, *size),
             (Kind::Scope, [start, end]) => say(&mut self.scope, (*start, *end)),
-            (Kind::Received, [start, end]) => push_within(
-                &mut self.received,
-                [*start, *end],
-                MOST_RANGES,
-                Fault::TooManyRanges,
-            ),
-            (Kind::Nak, [start, end]) => push_within(
-                &mut self.plan.naks,
-                [*start, *end, 0],
-                MOST_NAKS,
-                Fault::TooManyNaks,
-            ),
+            (Kind::Received, [start, end]) => {
+                let pushed = self.received.try_push([*start, *end]);
+                pushed.map_err(|_| Fault::TooManyRanges)
+            }
+            (Kind::Nak, [start, end]) => {
+                let pushed = self.plan.naks.try_push([*start, *end, 0]);
+                pushed.map_err(|_| Fault::TooManyNaks)
+            }
             (Kind::Request, [start, end]) => self.take_request(*start, *end),
             (Kind::End, [naks, requests]) => self.take_end(*naks, *requests),
             _ => Err(Fault::OtherCount),
@@ -158,59 +123,45 @@ impl Draft {
     }
 
     // Blank lines are passed over.
-    fn take(&mut self, alloc: Global, line: &[u8]) -> Result<(), Fault> {
-        let words = line::words(alloc, line)?;
-        let [first, others @ ..] = words.as_slice() else {
+    fn take(&mut self, line: &[u8]) -> Result<(), Fault> {
+        let Some(line) = line::from_word(line) else {
             return Ok(());
         };
-        let kind = Kind::try_from(*first)?;
+        let kind = Kind::try_from(line::first_word(line))?;
         if self.ended {
             return Err(Fault::BehindEnd);
         }
-        let numbers = line::numbers(alloc, others)?;
+        let numbers = line::numbers(line)?;
         self.take_numbers(kind, numbers.as_slice())
     }
 
     // The task, where nothing is missing. Without a NAK and an end a plan is to be made.
-    fn finish(self, alloc: Global) -> Result<Task, Fault> {
-        let Draft {
-            header,
-            packet,
-            scope,
-            received,
-            plan,
-            ended,
-        } = self;
-        let header = header.ok_or(Fault::NoHeader)?;
-        let size = packet.ok_or(Fault::NoPacket)? as usize;
-        let (start, end) = scope.ok_or(Fault::NoScope)?;
-        let wanted = if ended || !plan.naks.is_empty() {
-            Wanted::Check(plan)
-        } else {
-            Wanted::Make(room(alloc)?)
-        };
+    fn task(&self) -> Result<Task, Fault> {
+        let header = self.header.ok_or(Fault::NoHeader)?;
+        let size = self.packet.ok_or(Fault::NoPacket)? as usize;
+        let (start, end) = self.scope.ok_or(Fault::NoScope)?;
         Ok(Task {
             header,
             size,
             start,
             end,
-            received,
-            wanted,
+            given: self.ended || !self.plan.naks.as_slice().is_empty(),
         })
     }
-}
 
-// Reads to the end of the input, or to the first line that is wrong. A proved loop has to end: it has as many turns as no input has lines.
-pub(crate) fn read(alloc: Global, input: &mut impl BufRead) -> Result<Task, Wrong> {
-    let mut draft = Draft::new(alloc);
-    let mut line = 0;
-    for number in 1..=u64::MAX {
-        line = number;
-        let wrong = |fault| Wrong { line, fault };
-        match line::next_line(alloc, input).map_err(wrong)? {
-            None => break,
-            Some(bytes) => draft.take(alloc, bytes.as_slice()).map_err(wrong)?,
+    // Reads to the end of the input, or to the first line that is wrong. A proved loop has to end: it has as many turns as no input has
+    // lines.
+    pub(crate) fn read(&mut self, input: &mut Input) -> Result<Task, Wrong> {
+        let mut bytes = [0; LINE_LEN];
+        let mut line = 0;
+        for number in 1..=u64::MAX {
+            line = number;
+            let wrong = |fault| Wrong { line, fault };
+            match input.next_line(&mut bytes).map_err(wrong)? {
+                None => break,
+                Some(text) => self.take(text).map_err(wrong)?,
+            }
         }
+        self.task().map_err(|fault| Wrong { line, fault })
     }
-    draft.finish(alloc).map_err(|fault| Wrong { line, fault })
 }

@@ -1,5 +1,4 @@
 // What is wrong with a line, in words.
-use std::alloc::{AllocError, AllocFailed};
 use std::fmt;
 
 #[derive(Clone, Copy)]
@@ -19,7 +18,6 @@ pub enum Fault {
     NoHeader,
     NoPacket,
     NoScope,
-    NoMemory,
 }
 
 impl fmt::Display for Fault {
@@ -40,20 +38,7 @@ impl fmt::Display for Fault {
             Fault::NoHeader => "is the end, and there was no header",
             Fault::NoPacket => "is the end, and there was no packet",
             Fault::NoScope => "is the end, and there was no scope",
-            Fault::NoMemory => "needs more memory than there is",
         })
-    }
-}
-
-impl From<AllocError> for Fault {
-    fn from(_error: AllocError) -> Fault {
-        Fault::NoMemory
-    }
-}
-
-impl<T: Drop> From<AllocFailed<T>> for Fault {
-    fn from(_error: AllocFailed<T>) -> Fault {
-        Fault::NoMemory
     }
 }
 

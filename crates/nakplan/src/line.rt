@@ -1,13 +1,9 @@
-// A line and its words: what it is about, and its numbers.
+// The words of a line: what it is about, and its numbers.
 use crate::fault::Fault;
-use std::alloc::{AllocError, Global};
-use std::io::{BufRead, Read};
-
-// The most bytes of a line, its end among them.
-const LINE_LEN: usize = 512;
+use arrayvec::ArrayVec;
 
 // The most numbers of a line: those of a header.
-const MOST_NUMBERS: usize = 14;
+pub const MOST_NUMBERS: usize = 14;
 
 // What a line is about, by its first word.
 #[derive(Clone, Copy)]
@@ -38,24 +34,9 @@ impl TryFrom<&[u8]> for Kind {
     }
 }
 
-// The next line, or none at the end; the last need not have a line end. A read that fails is the end too: room for a line is made before,
-// so that only the system fails it.
-pub(crate) fn next_line(alloc: Global, input: &mut impl BufRead) -> Result<Option<Vec<u8>>, Fault> {
-    let mut line = Vec::with_capacity(alloc, LINE_LEN)?;
-    let _ = input
-        .by_ref()
-        .take(LINE_LEN as u64)
-        .read_until(b'\n', &mut line);
-    match line.last() {
-        None => Ok(None),
-        Some(last) if line.len() == LINE_LEN && *last != b'\n' => Err(Fault::TooLong),
-        Some(_) => Ok(Some(line)),
-    }
-}
-
-// What words stand between, and the end of the line. The library's white space has the form feed too.
+// What words stand between. The library's white space has the form feed too.
 fn is_blank(byte: &u8) -> bool {
-    matches!(byte, b' ' | b'\t' | b'\r' | b'\n')
+    matches!(byte, b' ' | b'\t' | b'\r')
 }
 
 // A decimal number of 64 bits. In front of the library's may stand a plus sign.
@@ -67,21 +48,26 @@ fn number(word: &[u8]) -> Result<u64, Fault> {
     text.parse().map_err(|_| Fault::NotANumber)
 }
 
-pub(crate) fn words(alloc: Global, line: &[u8]) -> Result<Vec<&[u8]>, AllocError> {
-    line.split(is_blank)
-        .filter(|word| !word.is_empty())
-        .collect(alloc)
+// A line from its first word on; none of a blank one.
+pub(crate) fn from_word(line: &[u8]) -> Option<&[u8]> {
+    let start = line.iter().position(|byte| !is_blank(byte))?;
+    Some(&line[start..])
+}
+
+// Such a line's first word.
+pub(crate) fn first_word(line: &[u8]) -> &[u8] {
+    line.split(is_blank).next().unwrap_or(line)
 }
 
 // The numbers that the words behind the first are. Of more words than a line has numbers, those behind them are not looked at.
-pub(crate) fn numbers(alloc: Global, words: &[&[u8]]) -> Result<Vec<u64>, Fault> {
-    let numbers: Vec<u64> = words
-        .iter()
-        .take(MOST_NUMBERS)
-        .map(|word| number(word))
-        .try_collect(alloc)?;
-    if words.len() > MOST_NUMBERS {
-        return Err(Fault::OtherCount);
+pub(crate) fn numbers(line: &[u8]) -> Result<ArrayVec<u64, MOST_NUMBERS>, Fault> {
+    let mut numbers = ArrayVec::new();
+    let words = line.split(is_blank).filter(|word| !word.is_empty());
+    for word in words.skip(1) {
+        if numbers.is_full() {
+            return Err(Fault::OtherCount);
+        }
+        numbers.push(number(word)?);
     }
     Ok(numbers)
 }

@@ -3,18 +3,21 @@
 
 mod draft;
 mod fault;
+mod input;
 mod line;
 mod task;
 
-use std::io;
-use std::io::BufReader;
+use draft::Draft;
+use input::Input;
 
-fn main(rt: HostRuntime) -> io::Result<()> {
-    let mut input = BufReader::new(rt.alloc(), rt.reader())?;
+// What was read, and what it gives, stays in one place: it has room for the longest lists that a task may have, and nothing is allocated.
+fn main(rt: HostRuntime) {
+    let mut input = Input::new();
+    let mut draft = Draft::new();
     // What standard output does not take is passed over.
-    let _ = match draft::read(rt.alloc(), &mut input) {
+    let _ = match draft.read(&mut input) {
         Err(wrong) => println!(rt; "{wrong}"),
-        Ok(task) => match task.answer() {
+        Ok(task) => match task.answer(&draft.received, &mut draft.plan) {
             Ok(answer) => println!(rt; "{answer}"),
             Err(refusal) => {
                 listing::print_refusal(refusal);
@@ -22,5 +25,4 @@ fn main(rt: HostRuntime) -> io::Result<()> {
             }
         },
     };
-    Ok(())
 }

@@ -1,6 +1,5 @@
 -- The statements of specs/Theorems, proved: an accepted plan passed every clause, and the planner's passes them all.
 -- Assumes nothing.
-use Rattle.std.specs.Prelude.{Result, Ok, Err}
 use Prim.Native.Nat.{ℕ, zero, suc, ◌*◌, ◌%◌, ◌^◌, ◌≤◌, ◌<◌}
 use mathlib.Core.Path.{◌≡◌, refl, sym, ap, ◌∙◌}
 use mathlib.Core.Bool.{Bool, true, false, ◌&&◌, not, and-false}
@@ -10,8 +9,7 @@ use lib.Dec.{leb, eqb}
 use lib.ListN.{length, take, drop}
 use lib.Seq.{take_at}
 use borrow.Author.Tests.{ne_eqb, leb-true, eqb-true}
-use Rattle.fields.specs.declared.refusal.Refusal.{Refusal}
-use Rattle.fields.specs.Answer.{accepted, answer_of}
+use Rattle.fields.specs.Answer.{accepted}
 use Rattle.fields.proofs.Judging.{same_accepted, passed, went}
 use Rattle.header.specs.declared.PduHeader.{PduHeader}
 use Rattle.header.specs.declared.flags.LargeFileFlag.{LargeFileFlag}

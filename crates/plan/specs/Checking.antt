@@ -1,7 +1,6 @@
 -- The check of a plan (document 02, C-09): its refusals in their order, and its answer.
 use Rattle.std.specs.Prelude.{ℕ, Bool, ◌&&◌, not, List, [], ◌∷◌, leb, length}
-use Rattle.fields.specs.Answer.{Answer, accepted, told, and_then, Test, when, first_of}
-use Rattle.fields.specs.Refusal.{paper}
+use Rattle.fields.specs.Answer.{Answer, accepted, and_then, Test, when, first_of}
 use Rattle.header.specs.declared.PduHeader.{PduHeader}
 use Rattle.header.specs.declared.flags.LargeFileFlag.{LargeFileFlag}
 use Rattle.nak.specs.Writing.{odd_count, scope_too_large}

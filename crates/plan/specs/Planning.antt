@@ -1,7 +1,6 @@
 -- The planner (document 02, C-09): its plan, its refusals, its answer, and the lent numbers at exit.
 use Rattle.std.specs.Prelude.{ℕ, zero, suc, ◌+◌, ◌-◌, ◌/◌, ◌&&◌, ◌||◌, not, List, [], ◌∷◌, ltb, eqb, length, drop}
-use Rattle.fields.specs.Answer.{Answer, accepted, told, and_then, Test, when, first_of, leaves}
-use Rattle.fields.specs.Refusal.{paper}
+use Rattle.fields.specs.Answer.{Answer, accepted, and_then, Test, when, first_of, leaves}
 use Rattle.header.specs.declared.PduHeader.{PduHeader}
 use Rattle.ranges.specs.Pairs.{twos}
 use Rattle.plan.specs.declared.planner.Planned.{Planned}

@@ -1,7 +1,6 @@
 -- What is proved of check and planner together, and of their answers.
-use Rattle.std.specs.Prelude.{ℕ, ◌*◌, ◌^◌, ◌≤◌, ◌<◌, ◌≡◌, true, ◌&&◌, not, List, [], ◌∷◌, eqb, length, get_or, take, drop, Result}
-use Rattle.fields.specs.declared.refusal.Refusal.{Refusal}
-use Rattle.fields.specs.Answer.{accepted, answer_of}
+use Rattle.std.specs.Prelude.{ℕ, ◌*◌, ◌^◌, ◌≤◌, ◌<◌, ◌≡◌, true, ◌&&◌, not, List, [], ◌∷◌, eqb, length, get_or, take, drop}
+use Rattle.fields.specs.Answer.{accepted}
 use Rattle.header.specs.declared.PduHeader.{PduHeader}
 use Rattle.header.specs.declared.flags.LargeFileFlag.{LargeFileFlag}
 use Rattle.header.specs.Size.{size_width}
@@ -9,7 +8,6 @@ use Rattle.nak.specs.Writing.{writing_nak}
 use Rattle.nak.specs.Counting.{most_requests, of_pairs}
 use Rattle.ranges.specs.Pairs.{twos}
 use Rattle.ranges.specs.Merging.{largest}
-use Rattle.plan.specs.declared.planner.Planned.{Planned}
 use Rattle.plan.specs.Missing.{missing, every_byte, missing_ranges}
 use Rattle.plan.specs.Plans.{PlannedNak, Plan, pair_numbers, nak_numbers, threes, accepts}
 use Rattle.plan.specs.Checking.{checking_plan}

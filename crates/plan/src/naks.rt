@@ -57,7 +57,9 @@ fn put_nak(out: &mut [u64], at: usize, start: u64, end: u64, count: u64)
     requires { at + 3 ≤ length out.old }
     ensures { out.new ≡ sets out.old at (start ∷ end ∷ count ∷ []) }
 {
-    out[at..at + 3].copy_from_slice(&[start, end, count]);
+    out[at] = start;
+    out[at + 1] = end;
+    out[at + 2] = count;
 }
 
 // So many NAKs for the requests, `most` to each and to the last what is left.

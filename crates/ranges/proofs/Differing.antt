@@ -25,7 +25,8 @@ use Rattle.ranges.specs.Laying.{flat}
 use Rattle.ranges.specs.Order.{disorder}
 use Rattle.ranges.specs.Transaction.{same_transaction}
 use Rattle.ranges.specs.Differing.{differences, Compared, compared, comparing_pairs, requests_in, comparing, counted, threes, differing, differ_memory}
-use Rattle.ranges.specs.Within.{pairs_in, AsksOrWrong, AsksOrRefused, laid, comparing_read}
+use Rattle.ranges.specs.Sources.{pairs_in}
+use Rattle.ranges.specs.Within.{AsksOrWrong, AsksOrRefused, laid, comparing_read}
 use Rattle.ranges.proofs.Laying.{length_flat, laid_all}
 use Rattle.ranges.proofs.Ordering.{disorder_none}
 

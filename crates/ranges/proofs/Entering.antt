@@ -28,7 +28,8 @@ use Rattle.ranges.specs.declared.owed.FirstNak.{FirstNak}
 use Rattle.ranges.specs.Pairs.{asks, spans, in_or_not}
 use Rattle.ranges.specs.Merging.{largest, label_of, labelling, merged}
 use Rattle.ranges.specs.Order.{others, disorder}
-use Rattle.ranges.specs.Within.{pairs_in, AsksOrWrong, laid}
+use Rattle.ranges.specs.Sources.{pairs_in}
+use Rattle.ranges.specs.Within.{AsksOrWrong, laid}
 use Rattle.ranges.specs.Owing.{Entry, resent, ranges_of, State, most, first_after, differs, differs_from, in_order, after, too_many, judging}
 use Rattle.ranges.specs.Memory.{state_size, ranges_in, first_in, state_in, is_state}
 use Rattle.ranges.specs.Log.{heard_of, resent_of, contents_of, entry_in, reading_entry, entry_size, entering, left_by, entry_taken, entry_memory}

@@ -13,7 +13,7 @@ use Rattle.std.specs.Option.{option_eq}
 use Rattle.std.specs.Iterator.{YieldsFirst}
 use Rattle.ranges.specs.declared.side.Source.{Source}
 use Rattle.ranges.specs.Pairs.{Rising}
-use Rattle.ranges.specs.Within.{pairs_in}
+use Rattle.ranges.specs.Sources.{pairs_in}
 use Rattle.ranges.specs.Order.{metadata, behind_first, others, begin_number, out_of_order, disorder}
 
 -- ---- the order of the others

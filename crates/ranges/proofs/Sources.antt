@@ -12,7 +12,7 @@ use Rattle.nak.specs.declared.iter.SegmentRequestIter.{SegmentRequestIter}
 use Rattle.nak.specs.Nak.{pair_size}
 use Rattle.nak.specs.Requests.{area_of, pairs_of}
 use Rattle.nak.proofs.Walking.{area_short, pairs_count, left_whole}
-use Rattle.ranges.specs.Within.{requests_ahead}
+use Rattle.ranges.specs.Sources.{requests_ahead}
 
 module _ (n : Nak) (s : List ℕ) where
   pub requests_start : (r : SegmentRequestIter) → (r.cursor ≡ record { at = 0 }) × (r.area.now ≡ area_of n s) × (r.file ≡ n.header.file)

@@ -5,6 +5,7 @@ pub mod Merging
 pub mod Laying
 pub mod Order
 pub mod Transaction
+pub mod Sources
 pub mod Differing
 pub mod Within
 pub mod Demands

@@ -6,32 +6,19 @@ use Rattle.fields.specs.declared.refusal.Refusal.TheVariants.{PairOutOfOrder}
 use Rattle.fields.specs.Answer.{Answer, and_then}
 use Rattle.fields.specs.Staged.{run}
 use Rattle.nak.specs.declared.Nak.{Nak}
-use Rattle.nak.specs.declared.iter.SegmentRequestIter.{SegmentRequestIter}
 use Rattle.nak.specs.Reading.{reading_nak}
-use Rattle.nak.specs.Requests.{pairs_left}
-use Rattle.ranges.specs.declared.side.Source.{Source}
-use Rattle.ranges.specs.declared.side.Source.TheVariants.{Area, Numbers}
 use Rattle.ranges.specs.declared.side.Side.{Side}
 use Rattle.ranges.specs.declared.order.Asked.{Asked}
 use Rattle.ranges.specs.declared.tape.Open.{Open}
 use Rattle.ranges.specs.Runs.{Run, range}
-use Rattle.ranges.specs.Pairs.{twos}
+use Rattle.ranges.specs.Sources.{pairs_in}
 use Rattle.ranges.specs.Order.{metadata, others, disorder}
 use Rattle.ranges.specs.Merging.{largest}
 use Rattle.ranges.specs.Laying.{wide, numbers_of}
 use Rattle.ranges.specs.Transaction.{same_transaction}
 use Rattle.ranges.specs.Differing.{Compared, requests_in, comparing_pairs}
 
--- ---- where pairs stand
-
--- those that the reader of an area has before it
-abbrev pub requests_ahead : SegmentRequestIter → List (ℕ × ℕ)
-requests_ahead r = pairs_left r.area.now r.file r.cursor.at
-
--- the pairs of a source that are still to come
-abbrev pub pairs_in : Source → List (ℕ × ℕ)
-pairs_in (Area requests) = requests_ahead requests
-pairs_in (Numbers numbers) = twos numbers.now
+-- ---- what a source's pairs ask for
 
 -- the number of the first pair out of order, or none: then the answer of `out_of_order` is 0
 abbrev pub number_or_none : Option ℕ → ℕ → Type 0

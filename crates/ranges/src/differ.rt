@@ -3,7 +3,8 @@ ghost use Rattle.std.specs.Prelude.{◌≡◌, ◌+◌, ◌≤◌, length};
 ghost use Rattle.fields.specs.Answer.{accepted, and_then, leaves, answer_of};
 ghost use Rattle.ranges.specs.Merging.{largest};
 ghost use Rattle.ranges.specs.Differing.{counted, threes, comparing_pairs, differing, differ_memory};
-ghost use Rattle.ranges.specs.Within.{pairs_in, AsksOrRefused, comparing_read};
+ghost use Rattle.ranges.specs.Sources.{pairs_in};
+ghost use Rattle.ranges.specs.Within.{AsksOrRefused, comparing_read};
 
 use crate::merge::Rule;
 use crate::order::Asked;

@@ -2,7 +2,8 @@
 ghost use Rattle.std.specs.Prelude.{◌≡◌, length};
 ghost use Rattle.ranges.specs.Pairs.{Rising};
 ghost use Rattle.ranges.specs.Merging.{label_of, merged};
-ghost use Rattle.ranges.specs.Within.{pairs_in, laid};
+ghost use Rattle.ranges.specs.Sources.{pairs_in};
+ghost use Rattle.ranges.specs.Within.{laid};
 
 use crate::side::{Side, Source};
 use crate::tape::Open;

@@ -2,7 +2,8 @@
 ghost use Rattle.std.specs.Prelude.{◌≡◌, ◌≤◌, ◌+◌, length};
 ghost use Rattle.ranges.specs.Merging.{largest};
 ghost use Rattle.ranges.specs.Order.{out_of_order};
-ghost use Rattle.ranges.specs.Within.{pairs_in, number_or_none, AsksOrWrong};
+ghost use Rattle.ranges.specs.Sources.{pairs_in};
+ghost use Rattle.ranges.specs.Within.{number_or_none, AsksOrWrong};
 
 use crate::side::Source;
 

@@ -6,7 +6,7 @@ ghost use Rattle.ranges.specs.Pairs.{Rising, twos};
 ghost use Rattle.ranges.specs.Owing.{most, first_after, differs};
 ghost use Rattle.ranges.specs.Memory.{rises, first_in, is_state};
 ghost use Rattle.ranges.specs.Log.{left_by, entry_taken, entry_memory, stop_answer, running};
-ghost use Rattle.ranges.specs.Within.{pairs_in};
+ghost use Rattle.ranges.specs.Sources.{pairs_in};
 ghost use Rattle.ranges.specs.OwedWithin.{head_put, owing_with, heard_in, resent_in, contents_taken, judged_only};
 
 use crate::merge::Rule;

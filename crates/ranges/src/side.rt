@@ -1,8 +1,9 @@
 // One side of a merge: pairs that stand in the bytes of a request area or in lent numbers, and the one of them that comes next.
-ghost use Rattle.std.specs.Iterator.{YieldsFirst, item_count};
-ghost use Rattle.std.specs.Prelude.{◌≡◌, ◌≤◌};
+ghost use Rattle.std.specs.Iterator.{YieldsFirst, MakesProgress, item_count};
+ghost use Rattle.std.specs.Prelude.{◌≡◌, ◌≤◌, ⊤};
 ghost use Rattle.ranges.specs.Merging.{largest};
-ghost use Rattle.ranges.specs.Within.{pairs_in, ahead, edge, begun, passed};
+ghost use Rattle.ranges.specs.Sources.{pairs_in, GoesOn};
+ghost use Rattle.ranges.specs.Within.{ahead, edge, begun, passed};
 
 use nak::iter::SegmentRequestIter;
 
@@ -21,7 +22,11 @@ impl<'a> Iterator for Source<'a> {
     ghost remaining = { item_count pairs_in };
 
     #[inline]
-    fn next(&mut self) -> Option<(u64, u64)> {
+    fn next(&mut self) -> Option<(u64, u64)>
+        ensures steps { YieldsFirst pairs_in self.old result self.new }
+        ensures goes { MakesProgress (λ _. ⊤) (item_count pairs_in) self.old result self.new }
+        ensures moves { GoesOn self.old self.new }
+    {
         match self {
             Source::Area(requests) => requests.next(),
             Source::Numbers(numbers) => {

@@ -90,12 +90,14 @@ fn status_of(window: &[u8], filled: usize) -> Status
 
 // Bytes into the window, at a place that has room for them.
 // Kept: `copy` of tlv is the same. One that is public would have to test the room, or to ask for it, and here it is known.
-#[tactic(auto, using(fields::proofs::Parts::copied))]
+// Bytes by index, as there: `copy_from_slice` is a call of `memmove`, which the library for C would then ask for.
 fn store(window: &mut [u8], at: usize, bytes: &[u8])
     requires { at + length bytes.now ≤ length window.old }
     ensures { window.new ≡ sets window.old at bytes.now }
 {
-    window[at..at + bytes.len()].copy_from_slice(bytes);
+    for i in 0..bytes.len() {
+        window[at + i] = bytes[i];
+    }
 }
 
 // The end of a call.

@@ -1,5 +1,7 @@
 // The parts of the replay list, read from standard input one behind the other. Behind its end all bytes are 0.
 // Kept: `io::read_full` over the descriptor is the plainer: `std::io::Read` has no method that fills a buffer as far as it can.
+ghost use Rattle.std.specs.Prelude.{◌≤◌, length};
+
 use crate::STDIN_FILENO;
 
 // The longest parts of the list: bytes or a lent buffer, numbers of 4 bytes, numbers of 8 bytes.
@@ -56,13 +58,17 @@ impl Header {
 }
 
 // The front of an array, as long as the list says, and no longer than the array: a list of its form asks for no more.
-pub(crate) fn front<T>(all: &mut [T]) -> &mut [T] {
+pub(crate) fn front<T>(all: &mut [T]) -> &mut [T]
+    ensures { length result.now ≤ length all.old }
+{
     let n = all.len().min(four() as usize);
     &mut all[..n]
 }
 
 // A length, then as many bytes.
-pub fn bytes(into: &mut [u8]) -> &[u8] {
+pub fn bytes(into: &mut [u8]) -> &[u8]
+    ensures { length result.now ≤ length into.old }
+{
     let bytes = front(into);
     io::read_full(STDIN_FILENO, bytes);
     bytes

@@ -9,12 +9,14 @@ use fields::be;
 use fields::be::MAX_WIDTH;
 
 // Kept: `store` of receiver is the same. One that is public would have to test the room, or to ask for it, and here it is known.
-#[tactic(auto, using(fields::proofs::Parts::copied))]
+// Kept: bytes by index. `copy_from_slice` is a call of `memmove`, which the library for C would then ask for.
 fn copy(buf: &mut [u8], at: usize, bytes: &[u8])
     requires { at + length bytes.now ≤ length buf.old }
     ensures { buf.new ≡ sets buf.old at bytes.now }
 {
-    buf[at..at + bytes.len()].copy_from_slice(bytes);
+    for i in 0..bytes.len() {
+        buf[at + i] = bytes[i];
+    }
 }
 
 // Whether so many bytes from a place on lie in a slice of `len` bytes.

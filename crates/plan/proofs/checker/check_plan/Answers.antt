@@ -1,6 +1,5 @@
 -- `plan::checker::check_plan` meets its contract. What was judged good, and then the clauses.
-use mathlib.Core.Path.{sym, ap, ◌∙◌}
-use Rattle.fields.specs.Answer.{answer_of}
+use mathlib.Core.Path.{◌∙◌}
 use Rattle.fields.proofs.Handed.{handed_on}
 use Rattle.plan.proofs.Judging.{good, check_refused, check_made}
 use Rattle.plan.proofs.checker.check_plan.Goals as goal

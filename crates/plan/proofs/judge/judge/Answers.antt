@@ -1,6 +1,5 @@
 -- `plan::judge::judge` meets its contract. A refusal of C-08 comes first, then those of the ranges.
-use mathlib.Core.Path.{sym, ap, ◌∙◌}
-use Rattle.fields.specs.Answer.{answer_of}
+use mathlib.Core.Path.{◌∙◌}
 use Rattle.fields.proofs.Handed.{handed_on}
 use Rattle.plan.proofs.Judging.{refused_first, refused_behind, none_refused}
 use Rattle.plan.proofs.judge.judge.Goals as goal

@@ -1,6 +1,5 @@
 -- `plan::planner::plan` meets its contract. A refused judgement changes nothing.
-use mathlib.Core.Path.{sym, ap, ◌∙◌}
-use Rattle.fields.specs.Answer.{answer_of}
+use mathlib.Core.Path.{◌∙◌}
 use Rattle.fields.proofs.Handed.{handed_on}
 use Rattle.plan.proofs.Judging.{good}
 use Rattle.plan.proofs.Planning.{plan_refused, plan_judged}

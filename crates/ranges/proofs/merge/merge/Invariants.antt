@@ -1,7 +1,8 @@
 -- `ranges::merge::merge` meets its contract: storing and counting what is left from here gives all, at each place where a side changes.
 use Prim.Native.Nat.{◌-◌}
 use Rattle.ranges.specs.Merging.{largest}
-use Rattle.ranges.specs.Within.{pairs_in, ahead}
+use Rattle.ranges.specs.Sources.{pairs_in}
+use Rattle.ranges.specs.Within.{ahead}
 use Rattle.ranges.proofs.Merging.{Walk}
 use Rattle.ranges.proofs.merge.merge.Given as goal
 

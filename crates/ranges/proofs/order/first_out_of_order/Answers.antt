@@ -3,7 +3,7 @@ use Prim.Native.Nat.{◌+◌}
 use mathlib.Core.Path.{◌≡◌, sym, ap, ◌∙◌}
 use native.Mathlib.Omega.{arith}
 use Rattle.ranges.specs.Order.{out_of_order}
-use Rattle.ranges.specs.Within.{pairs_in}
+use Rattle.ranges.specs.Sources.{pairs_in}
 use Rattle.ranges.proofs.Ordering.{order_wrong}
 use Rattle.ranges.proofs.order.first_out_of_order.Goals as goal
 

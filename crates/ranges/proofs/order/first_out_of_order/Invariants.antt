@@ -2,7 +2,7 @@
 use Prim.Native.Nat.{◌+◌}
 use mathlib.Core.Path.{◌≡◌}
 use lib.ListN.{length}
-use Rattle.ranges.specs.Within.{pairs_in}
+use Rattle.ranges.specs.Sources.{pairs_in}
 use Rattle.ranges.specs.Order.{out_of_order}
 use Rattle.ranges.proofs.order.first_out_of_order.Given as goal
 
