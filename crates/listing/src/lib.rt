@@ -25,13 +25,17 @@ pub mod pdus;
 // Kept, by what may not change: `list`, `print_refusal` and the others that are public are given no handle of the runtime, and cannot fail.
 const STDOUT_FILENO: i32 = 1;
 
+fn print_bytes(bytes: &[u8]) {
+    io::write_all(STDOUT_FILENO, bytes);
+}
+
 // Standard output, piece by piece. What it does not take is passed over, so that printing cannot fail, and a reader's answer stands.
 #[derive(Drop)]
 struct Output;
 
 impl Write for Output {
     fn write_str(&mut self, text: &str) -> fmt::Result {
-        io::write_all(STDOUT_FILENO, text.as_bytes());
+        print_bytes(text.as_bytes());
         Ok(())
     }
 }

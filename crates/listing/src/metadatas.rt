@@ -1,12 +1,11 @@
 // Prints a Metadata PDU, or why it is refused. A byte of a name that could disturb a terminal is printed in hexadecimal.
-ghost use Rattle.std.specs.Prelude.{◌≡◌};
+ghost use Rattle.std.specs.Prelude.{◌≡◌, ◌≤◌};
 ghost use Rattle.fields.specs.Staged.{run};
 ghost use Rattle.metadata.specs.Reading.{reading_metadata};
 ghost use Rattle.listing.specs.Listing.{is_accepted, is_plain};
 
-use crate::{listed, print, print_ids, print_line};
+use crate::{listed, print, print_bytes, print_ids, print_line};
 use metadata::{Metadata, MetadataParams, parts};
-use std::fmt::{Display, InlineText};
 use tlv::Field;
 use tlv::walk::{FieldCursor, NextField};
 
@@ -22,18 +21,25 @@ fn is_plain(byte: u8) -> bool
     }
 }
 
-// A byte in hexadecimal, with what is in front of it, as one piece: pieces are written one by one, and it has up to three.
-fn print_byte(text: impl Display + Drop) {
-    print(InlineText::<4>::of(text).as_str());
+// A hexadecimal digit, 0 to 9 or A to F: that of the lower four bits.
+// Kept: by hand. A format writes a byte in up to three pieces, and as one text it takes half as long again as this.
+fn digit(n: u8) -> u8
+    ensures { (48 ≤ result) × (result ≤ 70) }
+{
+    let low = n % 16;
+    if low < 10 {
+        return b'0' + low;
+    }
+    b'A' + (low - 10)
 }
 
 fn print_name(word: &str, name: &[u8]) {
     print(word);
     for byte in name {
         if is_plain(*byte) {
-            print(char::from(*byte));
+            print_bytes(&[*byte]);
         } else {
-            print_byte(format_args!("\\x{byte:02X}"));
+            print_bytes(&[b'\\', b'x', digit(*byte / 16), digit(*byte)]);
         }
     }
     print_line("");
@@ -42,7 +48,7 @@ fn print_name(word: &str, name: &[u8]) {
 fn print_option(area: &[u8], option: Field) {
     print(format_args!("option {}", option.tag));
     for byte in option.value(area) {
-        print_byte(format_args!(" {byte:02X}"));
+        print_bytes(&[b' ', digit(*byte / 16), digit(*byte)]);
     }
     print_line("");
 }

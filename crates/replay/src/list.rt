@@ -77,6 +77,7 @@ pub fn bytes(into: &mut [u8]) -> &[u8]
 // A count, then as many numbers.
 pub(crate) fn numbers<T: Drop, F: Fn() -> T>(into: &mut [T], next: F) -> &[T]
     requires { F.IsAlwaysCallable next }
+    ensures { length result.now ≤ length into.old }
 {
     let numbers = front(into);
     for number in numbers.iter_mut() {
